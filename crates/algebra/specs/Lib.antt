@@ -1,0 +1,4 @@
+pub mod Symbols
+pub mod Weights
+pub mod Functions
+pub mod Interpolation
