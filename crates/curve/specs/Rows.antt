@@ -1,0 +1,26 @@
+-- What a message becomes. Document 01, "Fields and curve": "A message has k symbols, by rising non-gap. Its row has at each
+-- point the value of the message's sum."
+-- Assumes nothing.
+use mathlib.Core.Bool.{Bool, not}
+use mathlib.Core.List.{List, map}
+use Prim.Native.Nat.{ℕ}
+use lib.Dec.{leb}
+use lib.ListN.{length, getD}
+use Rattle.algebra.specs.Symbols.{Symbols, sum}
+use Rattle.algebra.specs.Functions.{monomialAt}
+use Rattle.lists.specs.Tables.{keep}
+use Rattle.curve.specs.Points.{Point, points}
+use Rattle.curve.specs.Codes.{nongaps}
+
+module _ (𝓢 : Symbols) (q : ℕ) where
+  infixl 70 _⊗_
+  open Symbols 𝓢 using (K, 𝟘, _⊗_)
+
+  -- the value at P of the sum of the message's symbols times the monomials of the weights
+  unfoldable pub messageAt : List ℕ → List K → Point 𝓢 q → K
+  messageAt weights message P =
+      sum 𝓢 (length weights) (λ m. getD message m 𝟘 ⊗ monomialAt 𝓢 q (getD weights m 0) (P .x) (P .y))
+
+  -- the row of a message
+  unfoldable pub rowOf : ℕ → List K → List K
+  rowOf u message = map (messageAt (nongaps q u) message) (points 𝓢 q)

@@ -1,0 +1,1 @@
+// The codes and the curve's points.

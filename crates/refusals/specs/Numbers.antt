@@ -1,0 +1,37 @@
+-- The refusal numbers, and which refusal a call gives. Document 01, "Refusal numbers".
+-- Assumes nothing.
+use mathlib.Core.Bool.{Bool, true, false}
+use mathlib.Core.List.{List, [], _∷_}
+use Prim.Native.Nat.{ℕ}
+use Rattle.refusals.specs.declared.Refusal.{Refusal}
+use Rattle.refusals.specs.declared.Refusal.the-variants.{UnknownQ, NoCode, TooManySteps, WrongLength, NoSymbol, ShortWork, ShortOutput, BeyondReach, BadBlock, WrongPayload, FewRecords}
+
+-- the table's first column
+abbrev pub refusalNumber : Refusal → ℕ
+refusalNumber UnknownQ = 1
+refusalNumber NoCode = 2
+refusalNumber TooManySteps = 3
+refusalNumber WrongLength = 4
+refusalNumber NoSymbol = 5
+refusalNumber ShortWork = 6
+refusalNumber ShortOutput = 7
+refusalNumber BeyondReach = 8
+refusalNumber BadBlock = 9
+refusalNumber WrongPayload = 10
+refusalNumber FewRecords = 11
+
+-- a refusal, and whether what it is given for holds
+pub record Check : Type 0 where
+  pub holds : Bool
+  pub why : Refusal
+
+infix 20 _if_
+
+abbrev pub _if_ : Refusal → Bool → Check
+why if holds = record { holds = holds; why = why }
+
+-- "Checked in this order as far as a call has the thing": a call lists its checks in the order of their numbers (verifying
+-- a block has an order of its own). "The first that holds is given": what `refuse` makes of it; where none holds, `otherwise`
+unfoldable pub firstOf {ℓ} : {A : Type ℓ} → List Check → (Refusal → A) → A → A
+firstOf [] refuse otherwise = otherwise
+firstOf (c ∷ cs) refuse otherwise = elim (c .holds) [ true ↦ refuse (c .why) | false ↦ firstOf cs refuse otherwise ]

@@ -1,0 +1,25 @@
+// Why a call refuses: one case for each number of document 01's table of refusals.
+pub enum Refusal {
+    // 1: q is not 2 or 4
+    UnknownQ,
+    // 2: u is a gap, below q, or n or more
+    NoCode,
+    // 3: more steps asked than there are
+    TooManySteps,
+    // 4: row not n long, or message not k long
+    WrongLength,
+    // 5: a symbol is q² or more
+    NoSymbol,
+    // 6: work area too short
+    ShortWork,
+    // 7: an output too short
+    ShortOutput,
+    // 8: more than the reach's places differ
+    BeyondReach,
+    // 9: block header or total length not as document 01 has them
+    BadBlock,
+    // 10: payload not 20R bytes
+    WrongPayload,
+    // 11: fewer than R records
+    FewRecords,
+}

@@ -1,0 +1,5 @@
+pub mod Start
+pub mod Pairing
+pub mod Steps
+pub mod Picture
+pub mod Stop

@@ -1,0 +1,8 @@
+// The published steps on a lent area.
+use refusals::Refusal;
+
+// What the stop service answers.
+pub enum Stopped {
+    Done,
+    Refused(Refusal),
+}

@@ -1,0 +1,1 @@
+// The symbols of q = 2 and q = 4 as bytes.
