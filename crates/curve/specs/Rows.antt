@@ -1,14 +1,11 @@
 -- What a message becomes. Document 01, "Fields and curve": "A message has k symbols, by rising non-gap. Its row has at each
 -- point the value of the message's sum."
 -- Assumes nothing.
-use mathlib.Core.Bool.{Bool, not}
 use mathlib.Core.List.{List, map}
 use Prim.Native.Nat.{ℕ}
-use lib.Dec.{leb}
 use lib.ListN.{length, getD}
 use Rattle.algebra.specs.Symbols.{Symbols, sum}
 use Rattle.algebra.specs.Functions.{monomialAt}
-use Rattle.lists.specs.Tables.{keep}
 use Rattle.curve.specs.Points.{Point, points}
 use Rattle.curve.specs.Codes.{nongaps}
 

@@ -26,7 +26,6 @@ pub record Check : Type 0 where
   pub why : Refusal
 
 infix 20 _if_
-
 abbrev pub _if_ : Refusal → Bool → Check
 why if holds = record { holds = holds; why = why }
 

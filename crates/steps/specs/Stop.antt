@@ -7,7 +7,7 @@ use lib.Dec.{eqb, ltb}
 use lib.ListN.{length, drop}
 use Rattle.refusals.specs.declared.Refusal.the-variants.{UnknownQ, NoCode, TooManySteps, WrongLength, NoSymbol, ShortWork, ShortOutput}
 use Rattle.refusals.specs.Numbers.{Check, _if_, firstOf}
-use Rattle.symbols.specs.Rule.{isKnown, symbols, Sym, number, symbol, anyBeyond}
+use Rattle.symbols.specs.Rule.{isKnown, symbols, number, symbol, anyBeyond}
 use Rattle.curve.specs.Codes.{pointCount, isCode, dimension}
 use Rattle.steps.specs.Start.{stepCount}
 use Rattle.steps.specs.Steps.{State, after, messageOf}

@@ -1,0 +1,75 @@
+-- What verifying a block answers and leaves, for all inputs. Document 01, "Block and verification" and "Refusal numbers".
+-- Assumes nothing.
+use mathlib.Core.Bool.{Bool, true, false, not, _&&_}
+use mathlib.Core.List.{List, [], _∷_, _++_}
+use Prim.Native.Nat.{ℕ, suc, _+_, _*_}
+use lib.Dec.{eqb, ltb}
+use lib.ListN.{length, drop}
+use Rattle.refusals.specs.declared.Refusal.the-variants.{ShortWork, BadBlock, WrongPayload, FewRecords}
+use Rattle.refusals.specs.Numbers.{Check, _if_, firstOf}
+use Rattle.lists.specs.Tables.{tab}
+use Rattle.steps.specs.Picture.{areaSize}
+use Rattle.decoder.specs.declared.Decoded.{Decoded}
+use Rattle.decoder.specs.declared.Decoded.the-variants.{Accepted, Refused as Declined}
+use Rattle.decoder.specs.Decoding.{voted, decoded, cleared}
+use Rattle.block.specs.Layout.{tapeQ, tapeU, rowCount, isBlock, blockRow, payloadRow}
+use Rattle.block.specs.declared.Record.{Record}
+use Rattle.block.specs.declared.Verified.{Verified}
+use Rattle.block.specs.declared.Verified.the-variants.{Copied, Differs, Unreadable, Refused}
+
+-- two messages have the same symbols
+unfoldable pub sameList : List ℕ → List ℕ → Bool
+sameList [] [] = true
+sameList [] (y ∷ ys) = false
+sameList (x ∷ xs) [] = false
+sameList (x ∷ xs) (y ∷ ys) = eqb x y && sameList xs ys
+
+-- "state 0 equal, 1 accepted but other message, 2 unreadable; and the count (0 when unreadable)"
+unfoldable pub outcome : Decoded → Bool → Record
+outcome (Accepted count) equal = elim equal [ true ↦ record { state = 0; count = count } | false ↦ record { state = 1; count = count } ]
+outcome (Declined why) equal = record { state = 2; count = 0 }
+
+-- the record of row r: "for each row a row's answer is taken apart first; anything but an acceptance ends that row's
+-- comparison"
+unfoldable pub rowRecord : List ℕ → List ℕ → ℕ → Record
+rowRecord block payload r =
+    let row = blockRow block r in
+    outcome (decoded tapeQ tapeU row) (sameList (voted tapeQ tapeU row) (payloadRow payload r))
+
+-- "The answer names the first row not in state 0 as Differs or Unreadable; if there is none, Copied with the sum of counts."
+-- Rows from r on, after rows in state 0 whose counts add up to `total`
+unfoldable pub verdictFrom : ℕ → ℕ → List Record → Verified
+verdictFrom r total [] = Copied total
+verdictFrom r total (x ∷ xs) =
+    elim (eqb (x .state) 0) [
+      | true ↦ verdictFrom (suc r) (total + x .count) xs
+      | false ↦ elim (eqb (x .state) 1) [ true ↦ Differs r | false ↦ Unreadable r ]
+    ]
+
+-- "One outcome record per row"; "All rows are recorded."
+unfoldable pub allRecords : List ℕ → List ℕ → List Record
+allRecords block payload = tab (rowCount block) (rowRecord block payload)
+
+-- "verify checks 9, 10, 11, 6"
+unfoldable pub verifyChecks : List ℕ → List ℕ → List Record → List ℕ → List Check
+verifyChecks block payload records work =
+    (BadBlock if not (isBlock block))
+    ∷ (WrongPayload if not (eqb (length payload) (20 * rowCount block)))
+    ∷ (FewRecords if ltb (length records) (rowCount block))
+    ∷ (ShortWork if ltb (length work) (areaSize tapeQ))
+    ∷ []
+
+unfoldable pub verifyAnswer : List ℕ → List ℕ → List Record → List ℕ → Verified
+verifyAnswer block payload records work =
+    firstOf (verifyChecks block payload records work) Refused (verdictFrom 0 0 (allRecords block payload))
+
+-- "Records past R stay."
+unfoldable pub verifyRecords : List ℕ → List ℕ → List Record → List ℕ → List Record
+verifyRecords block payload records work =
+    firstOf (verifyChecks block payload records work) (λ why. records)
+    (allRecords block payload ++ drop (rowCount block) records)
+
+-- "ends with its part of the work area all zero; so does verifying"
+unfoldable pub verifyWork : List ℕ → List ℕ → List Record → List ℕ → List ℕ
+verifyWork block payload records work =
+    firstOf (verifyChecks block payload records work) (λ why. work) (cleared (areaSize tapeQ) work)

@@ -1,0 +1,85 @@
+-- What decoding answers and leaves, for all inputs. Document 01, "The decoder's steps" (its end), "Lent areas", "Refusal
+-- numbers".
+-- Assumes nothing.
+use mathlib.Core.Bool.{true, false, not, cond, _||_}
+use mathlib.Core.List.{List, [], _∷_, _++_}
+use Prim.Native.Nat.{ℕ, _+_}
+use lib.Dec.{leb, eqb, ltb}
+use lib.ListN.{length, drop, replicate}
+use Rattle.refusals.specs.declared.Refusal.the-variants.{UnknownQ, NoCode, WrongLength, NoSymbol, ShortWork, ShortOutput, BeyondReach}
+use Rattle.refusals.specs.Numbers.{Check, _if_, firstOf}
+use Rattle.symbols.specs.Rule.{isKnown, anyBeyond}
+use Rattle.curve.specs.Codes.{pointCount, isCode, dimension, reach}
+use Rattle.encoder.specs.Encoding.{rowNumbers}
+use Rattle.steps.specs.Start.{stepCount}
+use Rattle.steps.specs.Picture.{areaSize}
+use Rattle.steps.specs.Stop.{votesAfter}
+use Rattle.decoder.specs.declared.Decoded.{Decoded}
+use Rattle.decoder.specs.declared.Decoded.the-variants.{Accepted, Refused}
+
+-- "The places that differ are the count."
+unfoldable pub differing : List ℕ → List ℕ → ℕ
+differing [] ys = 0
+differing (x ∷ xs) [] = 0
+differing (x ∷ xs) (y ∷ ys) = cond (eqb x y) 0 1 + differing xs ys
+
+-- a message judged against a row: how many places of the row are not as in the message's row
+unfoldable pub countOf : ℕ → ℕ → List ℕ → List ℕ → ℕ
+countOf q u message row = differing (rowNumbers q u message) row
+
+-- "At most τ: accepted."
+unfoldable pub judgement : ℕ → ℕ → List ℕ → List ℕ → Decoded
+judgement q u message row =
+    elim (leb (countOf q u message row) (reach q u)) [
+      | true ↦ Accepted (countOf q u message row)
+      | false ↦ Refused BeyondReach
+    ]
+
+-- "After the last step": the votes after all steps
+unfoldable pub voted : ℕ → ℕ → List ℕ → List ℕ
+voted q u row = votesAfter q u row (stepCount q)
+
+-- what a full row of symbols decodes to
+unfoldable pub decoded : ℕ → ℕ → List ℕ → Decoded
+decoded q u row = judgement q u (voted q u row) row
+
+-- 1, 2, 4, 5, 6, 7; then `decoded` may give 8
+unfoldable pub decodeChecks : ℕ → ℕ → List ℕ → List ℕ → List ℕ → List ℕ → List Check
+decodeChecks q u row work message corrected =
+    (UnknownQ if not (isKnown q))
+    ∷ (NoCode if not (isCode q u))
+    ∷ (WrongLength if not (eqb (length row) (pointCount q)))
+    ∷ (NoSymbol if anyBeyond q row)
+    ∷ (ShortWork if ltb (length work) (areaSize q))
+    ∷ (ShortOutput if ltb (length message) (dimension q u) || ltb (length corrected) (pointCount q))
+    ∷ []
+
+-- "decoding answers accepted with the count"
+unfoldable pub decodeAnswer : ℕ → ℕ → List ℕ → List ℕ → List ℕ → List ℕ → Decoded
+decodeAnswer q u row work message corrected =
+    firstOf (decodeChecks q u row work message corrected) Refused (decoded q u row)
+
+-- a list whose first n places are zero
+unfoldable pub cleared : ℕ → List ℕ → List ℕ
+cleared n l = replicate n 0 ++ drop n l
+
+-- "ends with its part of the work area all zero"; "8 leaves its part of the work area zero"
+unfoldable pub decodeWork : ℕ → ℕ → List ℕ → List ℕ → List ℕ → List ℕ → List ℕ
+decodeWork q u row work message corrected =
+    firstOf (decodeChecks q u row work message corrected) (λ why. work) (cleared (areaSize q) work)
+
+-- what an acceptance writes, and a refusal leaves
+unfoldable pub ifAccepted : Decoded → List ℕ → List ℕ → List ℕ
+ifAccepted (Accepted count) written old = written
+ifAccepted (Refused why) written old = old
+
+-- "Decoding writes k message symbols"
+unfoldable pub decodeMessage : ℕ → ℕ → List ℕ → List ℕ → List ℕ → List ℕ → List ℕ
+decodeMessage q u row work message corrected =
+    ifAccepted (decodeAnswer q u row work message corrected) (voted q u row ++ drop (dimension q u) message) message
+
+-- "and n corrected symbols"
+unfoldable pub decodeCorrected : ℕ → ℕ → List ℕ → List ℕ → List ℕ → List ℕ → List ℕ
+decodeCorrected q u row work message corrected =
+    ifAccepted (decodeAnswer q u row work message corrected)
+    (rowNumbers q u (voted q u row) ++ drop (pointCount q) corrected) corrected

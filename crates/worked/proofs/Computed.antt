@@ -1,0 +1,57 @@
+-- The hand-worked table holds: antt computes both sides of each entry.
+-- Assumes nothing.
+use mathlib.Core.Path.{refl}
+use Rattle.algebra.specs.Symbols.{same, power, sum}
+use Rattle.algebra.specs.Weights.{weight, xPower, yPower, gap, nongap}
+use Rattle.algebra.specs.Functions.{shift, timesX, timesY, timesYs, timesMonomial, monomialAt}
+use Rattle.algebra.specs.Interpolation.{unit, xPart, yPart}
+use Rattle.lists.specs.Tables.{from, tab, keep}
+use Rattle.symbols.specs.Rule.{size, reducedBy, twice, chosen, product, powerOf, inverseOf, Below, into, symbols}
+use Rattle.curve.specs.Points.{onCurve, pair, points, pointAt}
+use Rattle.curve.specs.Codes.{pointCount, nongaps, dimension, reach}
+use Rattle.curve.specs.Rows.{messageAt, rowOf}
+use Rattle.encoder.specs.Encoding.{rowNumbers}
+use Rattle.steps.specs.Start.{width, startWeight, stepCount, coefficient, polynomial, polynomials, term, h, table, ofTable, vanishing, one, nothing, negated, startPart, start}
+use Rattle.steps.specs.Pairing.{degree, isNegative, positivePart, negativePart, isVoted, partnerOf, kOf, best, degreeOf, degreeF, degreeG, leadF, leadG, looked, pairing, score, vote}
+use Rattle.steps.specs.Steps.{substitutedPart, substituted, raisedPart, reducedPart, replaced, exchanged, ratio, changed, noPair, updated, pairings, step, after, messageOf}
+use Rattle.steps.specs.Stop.{stateAfter, votesAfter}
+use Rattle.decoder.specs.Decoding.{differing, countOf, judgement, voted, decoded}
+use Rattle.worked.specs.Table.{Table, is, has, terms, pointNumbers, powers, polynomialAfter, pairOne}
+
+-- opens all that the table computes with
+unfoldable computing : Unit {0}
+unfolding same power sum weight xPower yPower gap nongap shift timesX timesY timesYs timesMonomial monomialAt unit xPart yPart from tab keep size reducedBy twice chosen product powerOf inverseOf Below into symbols onCurve pair points pointAt pointCount nongaps dimension reach messageAt rowOf rowNumbers width startWeight stepCount coefficient polynomial polynomials term h table ofTable vanishing one nothing negated startPart start degree isNegative positivePart negativePart isVoted partnerOf kOf best degreeOf degreeF degreeG leadF leadG looked pairing score vote substitutedPart substituted raisedPart reducedPart replaced exchanged ratio changed noPair updated pairings step after messageOf stateAfter votesAfter differing countOf judgement voted decoded is has terms pointNumbers powers polynomialAfter pairOne
+computing = tt
+
+pub worked : Table
+unfolding computing
+worked =
+    record {
+      product-2-9 = refl;
+      product-8-8 = refl;
+      points-2 = refl;
+      gap-11 = refl;
+      no-gap-12 = refl;
+      monomial-12 = refl;
+      no-gap-15 = refl;
+      monomial-15 = refl;
+      no-gap-45 = refl;
+      monomial-45 = refl;
+      row-of-y = refl;
+      row-of-1203 = refl;
+      h-is = refl;
+      g0-after-9 = refl;
+      g1-after-9 = refl;
+      f0-after-9 = refl;
+      f1-after-9 = refl;
+      partner-at-9 = refl;
+      k-at-9 = refl;
+      c-at-9 = refl;
+      f0-after-6 = refl;
+      f1-after-6 = refl;
+      partner-of-weight-1 = refl;
+      k-of-weight-1 = refl;
+      accepted-with = refl;
+      accepted-as = refl;
+      refused = refl;
+    }
