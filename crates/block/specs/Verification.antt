@@ -8,7 +8,7 @@ use lib.ListN.{length, drop}
 use Rattle.refusals.specs.declared.Refusal.the-variants.{ShortWork, BadBlock, WrongPayload, FewRecords}
 use Rattle.refusals.specs.Numbers.{Check, _if_, firstOf}
 use Rattle.lists.specs.Tables.{tab}
-use Rattle.steps.specs.Picture.{areaSize}
+use Rattle.published.specs.Picture.{areaSize}
 use Rattle.decoder.specs.declared.Decoded.{Decoded}
 use Rattle.decoder.specs.declared.Decoded.the-variants.{Accepted, Refused as Declined}
 use Rattle.decoder.specs.Decoding.{voted, decoded, cleared}

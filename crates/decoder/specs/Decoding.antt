@@ -11,8 +11,8 @@ use Rattle.refusals.specs.Numbers.{Check, _if_, firstOf}
 use Rattle.symbols.specs.Rule.{isKnown, anyBeyond}
 use Rattle.curve.specs.Codes.{pointCount, isCode, dimension, reach}
 use Rattle.encoder.specs.Encoding.{rowNumbers}
-use Rattle.steps.specs.Start.{stepCount}
-use Rattle.steps.specs.Picture.{areaSize}
+use Rattle.published.specs.Start.{stepCount}
+use Rattle.published.specs.Picture.{areaSize}
 use Rattle.steps.specs.Stop.{votesAfter}
 use Rattle.decoder.specs.declared.Decoded.{Decoded}
 use Rattle.decoder.specs.declared.Decoded.the-variants.{Accepted, Refused}

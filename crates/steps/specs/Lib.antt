@@ -1,5 +1,1 @@
-pub mod Start
-pub mod Pairing
-pub mod Steps
-pub mod Picture
 pub mod Stop

@@ -9,9 +9,9 @@ use Rattle.refusals.specs.declared.Refusal.the-variants.{UnknownQ, NoCode, TooM
 use Rattle.refusals.specs.Numbers.{Check, _if_, firstOf}
 use Rattle.symbols.specs.Rule.{isKnown, symbols, number, symbol, anyBeyond}
 use Rattle.curve.specs.Codes.{pointCount, isCode, dimension}
-use Rattle.steps.specs.Start.{stepCount}
-use Rattle.steps.specs.Steps.{State, after, messageOf}
-use Rattle.steps.specs.Picture.{areaSize, picture}
+use Rattle.published.specs.Start.{stepCount}
+use Rattle.published.specs.Steps.{State, after, messageOf}
+use Rattle.published.specs.Picture.{areaSize, picture}
 use Rattle.steps.specs.declared.Stopped.{Stopped}
 use Rattle.steps.specs.declared.Stopped.the-variants.{Done, Refused}
 

@@ -11,9 +11,9 @@ use Rattle.curve.specs.Points.{onCurve, pair, points, pointAt}
 use Rattle.curve.specs.Codes.{pointCount, nongaps, dimension, reach}
 use Rattle.curve.specs.Rows.{messageAt, rowOf}
 use Rattle.encoder.specs.Encoding.{rowNumbers}
-use Rattle.steps.specs.Start.{width, startWeight, stepCount, coefficient, polynomial, polynomials, term, h, table, ofTable, vanishing, one, nothing, negated, startPart, start}
-use Rattle.steps.specs.Pairing.{degree, isNegative, positivePart, negativePart, isVoted, partnerOf, kOf, best, degreeOf, degreeF, degreeG, leadF, leadG, looked, pairing, score, vote}
-use Rattle.steps.specs.Steps.{substitutedPart, substituted, raisedPart, reducedPart, replaced, exchanged, ratio, changed, noPair, updated, pairings, step, after, messageOf}
+use Rattle.published.specs.Start.{width, startWeight, stepCount, coefficient, polynomial, polynomials, term, h, table, ofTable, vanishing, one, nothing, negated, startPart, start}
+use Rattle.published.specs.Pairing.{degree, isNegative, positivePart, negativePart, isVoted, partnerOf, kOf, best, degreeOf, degreeF, degreeG, leadF, leadG, looked, pairing, score, vote}
+use Rattle.published.specs.Steps.{substitutedPart, substituted, raisedPart, reducedPart, replaced, exchanged, ratio, changed, noPair, updated, pairings, step, after, messageOf}
 use Rattle.steps.specs.Stop.{stateAfter, votesAfter}
 use Rattle.decoder.specs.Decoding.{differing, countOf, judgement, voted, decoded}
 use Rattle.worked.specs.Table.{Table, is, has, terms, pointNumbers, powers, polynomialAfter, pairOne}

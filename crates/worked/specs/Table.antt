@@ -13,8 +13,8 @@ use Rattle.symbols.specs.Rule.{symbols, number, symbol}
 use Rattle.refusals.specs.declared.Refusal.the-variants.{BeyondReach}
 use Rattle.curve.specs.Points.{points}
 use Rattle.encoder.specs.Encoding.{rowNumbers}
-use Rattle.steps.specs.Start.{width, table, h, start, f, g}
-use Rattle.steps.specs.Pairing.{Pairing, pairing, partnerOf, kOf}
+use Rattle.published.specs.Start.{width, table, h, start, f, g}
+use Rattle.published.specs.Pairing.{Pairing, pairing, partnerOf, kOf}
 use Rattle.steps.specs.Stop.{stateAfter}
 use Rattle.decoder.specs.declared.Decoded.the-variants.{Accepted, Refused}
 use Rattle.decoder.specs.Decoding.{voted, decoded}

@@ -5,7 +5,7 @@ use mathlib.Core.List.{List}
 use Prim.Native.Nat.{ℕ, _+_, _*_, _/_, _%_}
 use Rattle.algebra.specs.Symbols.{Symbols}
 use Rattle.lists.specs.Tables.{tab, join}
-use Rattle.steps.specs.Start.{Polynomials, coefficient, width}
+use Rattle.published.specs.Start.{Polynomials, coefficient, width}
 
 -- "The work area needs 4q²(q²+2q-1) symbols"
 unfoldable pub areaSize : ℕ → ℕ

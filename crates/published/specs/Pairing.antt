@@ -8,7 +8,7 @@ use lib.Dec.{leb, ltb, eqb}
 use lib.IntN.{ℤ, pos, negsuc, subℕ, _-ℤ_}
 use Rattle.algebra.specs.Symbols.{Symbols}
 use Rattle.algebra.specs.Weights.{nongap}
-use Rattle.steps.specs.Start.{Polynomials, coefficient, width, upper, lower, f, g}
+use Rattle.published.specs.Start.{Polynomials, coefficient, width, upper, lower, f, g}
 
 -- the degree of the polynomial whose coefficients' numbers are a 0 to a (n - 1); 0 if all are zero
 unfoldable pub degree : (ℕ → ℕ) → ℕ → ℕ

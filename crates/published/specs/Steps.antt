@@ -11,8 +11,8 @@ use Rattle.algebra.specs.Symbols.{Symbols, same}
 use Rattle.algebra.specs.Functions.{Fn, timesX, timesMonomial}
 use Rattle.lists.specs.Tables.{tab}
 use Rattle.curve.specs.Codes.{nongaps}
-use Rattle.steps.specs.Start.{Polynomial, Polynomials, coefficient, polynomial, polynomials, start, startWeight, stepCount, upper, lower, f, g}
-use Rattle.steps.specs.Pairing.{Pairing, pairing, vote, positivePart, negativePart}
+use Rattle.published.specs.Start.{Polynomial, Polynomials, coefficient, polynomial, polynomials, start, startWeight, stepCount, upper, lower, f, g}
+use Rattle.published.specs.Pairing.{Pairing, pairing, vote, positivePart, negativePart}
 
 module _ (𝓢 : Symbols) (q : ℕ) where
   infixl 65 _⊕_ _⊖_

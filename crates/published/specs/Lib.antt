@@ -1,0 +1,4 @@
+pub mod Start
+pub mod Pairing
+pub mod Steps
+pub mod Picture
