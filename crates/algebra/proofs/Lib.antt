@@ -1,0 +1,10 @@
+pub mod Ring
+pub mod Powers
+pub mod Sums
+pub mod NumberSums
+pub mod Polynomials
+pub mod Roots
+pub mod WeightLaws
+pub mod Partners
+pub mod Bounds
+pub mod OnCurve
