@@ -1,0 +1,5 @@
+pub mod Numbers
+pub mod Tables
+pub mod Keep
+pub mod Put
+pub mod Grid
