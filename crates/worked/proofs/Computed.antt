@@ -12,15 +12,17 @@ use Rattle.curve.specs.Codes.{pointCount, nongaps, dimension, reach}
 use Rattle.curve.specs.Rows.{messageAt, rowOf}
 use Rattle.encoder.specs.Encoding.{rowNumbers}
 use Rattle.published.specs.Start.{width, startWeight, stepCount, coefficient, polynomial, polynomials, term, h, table, ofTable, vanishing, one, nothing, negated, startPart, start}
+use Rattle.published.specs.Picture.{areaSize}
 use Rattle.published.specs.Pairing.{degree, isNegative, positivePart, negativePart, isVoted, partnerOf, kOf, best, degreeOf, degreeF, degreeG, leadF, leadG, looked, pairing, score, vote}
 use Rattle.published.specs.Steps.{substitutedPart, substituted, raisedPart, reducedPart, replaced, exchanged, ratio, changed, noPair, updated, pairings, step, after, messageOf}
 use Rattle.steps.specs.Stop.{stateAfter, votesAfter}
 use Rattle.decoder.specs.Decoding.{differing, countOf, judgement, voted, decoded}
 use Rattle.worked.specs.Table.{Table, is, has, terms, pointNumbers, powers, polynomialAfter, pairOne}
+use Rattle.worked.specs.Stated.{Stated, product2, powerOf2, gaps, ordinates}
 
 -- opens all that the table computes with
 unfoldable computing : Unit {0}
-unfolding same power sum weight xPower yPower gap nongap shift timesX timesY timesYs timesMonomial monomialAt unit xPart yPart from tab keep size reducedBy twice chosen product powerOf inverseOf Below into symbols onCurve pair points pointAt pointCount nongaps dimension reach messageAt rowOf rowNumbers width startWeight stepCount coefficient polynomial polynomials term h table ofTable vanishing one nothing negated startPart start degree isNegative positivePart negativePart isVoted partnerOf kOf best degreeOf degreeF degreeG leadF leadG looked pairing score vote substitutedPart substituted raisedPart reducedPart replaced exchanged ratio changed noPair updated pairings step after messageOf stateAfter votesAfter differing countOf judgement voted decoded is has terms pointNumbers powers polynomialAfter pairOne
+unfolding same power sum weight xPower yPower gap nongap shift timesX timesY timesYs timesMonomial monomialAt unit xPart yPart from tab keep size reducedBy twice chosen product powerOf inverseOf Below into symbols onCurve pair points pointAt pointCount nongaps dimension reach messageAt rowOf rowNumbers width startWeight stepCount coefficient polynomial polynomials term h table ofTable vanishing one nothing negated startPart start degree isNegative positivePart negativePart isVoted partnerOf kOf best degreeOf degreeF degreeG leadF leadG looked pairing score vote substitutedPart substituted raisedPart reducedPart replaced exchanged ratio changed noPair updated pairings step after messageOf stateAfter votesAfter differing countOf judgement voted decoded is has terms pointNumbers powers polynomialAfter pairOne areaSize product2 powerOf2 gaps ordinates
 computing = tt
 
 pub worked : Table
@@ -54,4 +56,29 @@ worked =
       accepted-with = refl;
       accepted-as = refl;
       refused = refl;
+    }
+
+pub stated : Stated
+unfolding computing
+stated =
+    record {
+      two-two = refl;
+      two-three = refl;
+      three-three = refl;
+      powers-of-a = refl;
+      gaps-2 = refl;
+      gaps-4 = refl;
+      above-0 = refl;
+      above-1 = refl;
+      above-2 = refl;
+      above-4 = refl;
+      tape-n = refl;
+      tape-k = refl;
+      tape-reach = refl;
+      start-2 = refl;
+      start-4 = refl;
+      steps-2 = refl;
+      steps-4 = refl;
+      area-2 = refl;
+      area-4 = refl;
     }
