@@ -8,3 +8,7 @@ pub mod WeightLaws
 pub mod Partners
 pub mod Bounds
 pub mod OnCurve
+pub mod Monomials
+pub mod Leads
+pub mod Vanishing
+pub mod Interpolation

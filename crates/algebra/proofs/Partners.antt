@@ -6,7 +6,7 @@ use native.Mathlib.Nat as Nat
 use native.Mathlib.Omega.{arith}
 use Rattle.algebra.specs.Weights.{weight}
 use Rattle.algebra.proofs.NumberSums.{total, total-permuted}
-use Rattle.algebra.proofs.WeightLaws.{weight-rows, weight-mod}
+use Rattle.algebra.proofs.WeightLaws.{weight-rows, weight-mod, weight-x}
 
 unfoldable pub partner : ℕ → ℕ → ℕ → ℕ
 partner q s i = (i + s) % q
@@ -61,6 +61,10 @@ module _ (q : ℕ) where
   pub paired : (s i : ℕ) → i < q → Paired s i (partner q s i)
   unfolding partner
   paired s i h = record { t = (i + s) / q; small = h; small′ = Nat.mod-lt (i + s) (omega arith); rows = sym (Nat.div-add-mod (i + s) q) }
+
+  -- x^c times x^k y^j has the weight that x^e times x^D y^j has, if c + k = e + D; so s more than x^c times x^A y^i
+  pub pair-balance : (s i A j k c e D : ℕ) → weight q i A + s ≡ weight q j k → c + k ≡ e + D → weight q i (c + A) + s ≡ weight q j D + q * e
+  pair-balance s i A j k c e D pair even = omega (arith, weight-x q j e D, weight-x q i c A, weight-x q j c k, ap (weight q j) even)
 
   module _ {s i j : ℕ} (P : Paired s i j) where
     pair-total : (a : ℕ) → weight q i a + s ≡ q * (a + i + P .t) + j

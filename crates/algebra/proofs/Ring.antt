@@ -155,6 +155,10 @@ module _ {𝓢 : Symbols} {q : ℕ} (𝓛 : Laws 𝓢 q) where
   pub mul-left-cancel : (a b c : K) → a ≢ 𝟘 → a ⊗ b ≡ a ⊗ c → b ≡ c
   mul-left-cancel a b c h e = equal-of-sub (zero-factor a (b ⊖ c) (simp (ring, e)) h)
 
+  -- a quotient times its divisor
+  pub divide-back : (a b : K) → b ≢ 𝟘 → a ⊗ inverse b ⊗ b ≡ a
+  divide-back a b h = linear (ap (λ x. a ⊗ x) (𝓛 .mul-inverse b h)) (simp ring)
+
   -- symbols are told apart by their numbers
   pub number-cancel : (a b : K) → number a ≡ number b → a ≡ b
   number-cancel a b e = sym (𝓛 .symbol-number a) ∙ ap symbol e ∙ 𝓛 .symbol-number b

@@ -26,6 +26,11 @@ module _ (q : ℕ) where
   unfolding weight
   weight-y j i = omega arith
 
+  -- y^j more than a power of x
+  pub weight-ys : (j i : ℕ) → weight q j i ≡ weight q 0 i + (q + 1) * j
+  unfolding weight
+  weight-ys j i = omega arith
+
   pub weight-origin : weight q 0 0 ≡ 0
   unfolding weight
   weight-origin = omega arith
