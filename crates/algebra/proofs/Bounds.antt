@@ -4,14 +4,14 @@ use mathlib.Core.Path.{_≡_, refl, sym, ap, _∙_}
 use mathlib.Core.Bool.{true}
 use Prim.Native.Nat.{ℕ, zero, suc, _+_, _*_, _-_, _≤_, _<_}
 use native.Mathlib.Omega.{arith}
-use native.Mathlib.Decide.{decLt, ℕ-discrete}
+use native.Mathlib.Decide.{decLe, decLt, ℕ-discrete}
 use Rattle.algebra.specs.Symbols.{Symbols, Laws}
 use Rattle.algebra.specs.Weights.{weight, nongap, xPower, yPower}
 use Rattle.algebra.specs.Functions.{Fn, shift, timesX, timesY, timesYs, timesMonomial}
 use Rattle.algebra.proofs.Ring.{ring, units}
 use Rattle.algebra.proofs.Powers.{two-le-q}
-use Rattle.algebra.proofs.Polynomials.{shift-add, shift-none}
-use Rattle.algebra.proofs.WeightLaws.{weight-x, weight-y, weight-wrap, weight-row-strict, weight-wide, weight-inj, powers-weigh}
+use Rattle.algebra.proofs.Polynomials.{shift-add, shift-zero, shift-none}
+use Rattle.algebra.proofs.WeightLaws.{weight-x, weight-y, weight-wrap, weight-row-strict, weight-mono, weight-row-mono, weight-wide, weight-inj, powers-weigh}
 
 module _ (𝓢 : Symbols) (q : ℕ) where
   infixl 65 _⊕_ _⊖_
@@ -69,6 +69,15 @@ module _ (𝓢 : Symbols) (q : ℕ) where
   pub cut-width : {n : ℕ} {a : Fn 𝓢 q} (W : ℕ) → Cut n 0 a → n < q * W → (j i : ℕ) → j < q → W ≤ i → a j i ≡ 𝟘
   cut-width W h l j i hj hi = h .off j i hj (omega (arith, weight-wide q j hi))
 
+  -- powers of x below W bound the weights by that of x^(W-1) y^(q-1)
+  pub cut-degree : {a : Fn 𝓢 q} (W : ℕ) → ((j i : ℕ) → j < q → W ≤ i → a j i ≡ 𝟘) → Cut (weight q (q - 1) (W - 1)) 0 a
+  cut-degree W h = record {
+    off = λ j i hj l. elim (decLe W i) [
+      | yes le ↦ h j i hj le
+      | no lt ↦ absurd (omega (arith, weight-row-mono q {j = j} {j′ = q - 1} i (omega arith), weight-mono q (q - 1) {i = i} {i′ = W - 1} (omega arith)))
+    ];
+  }
+
   pub cut-x : {n m : ℕ} (c : ℕ) {a : Fn 𝓢 q} → Cut n m a → Cut (n + q * c) m (timesX 𝓢 q c a)
   unfolding timesX
   cut-x {n} c {a} h = record {
@@ -79,6 +88,10 @@ module _ (𝓢 : Symbols) (q : ℕ) where
   pub x-at : (c : ℕ) (a : Fn 𝓢 q) (j i : ℕ) → timesX 𝓢 q c a j (c + i) ≡ a j i
   unfolding timesX
   x-at c a j i = shift-add 𝓢 q c (a j) i
+
+  pub x-zero : (a : Fn 𝓢 q) (j i : ℕ) → timesX 𝓢 q 0 a j i ≡ a j i
+  unfolding timesX
+  x-zero a j i = shift-zero 𝓢 q (a j) i
 
   pub lead-x : {w : ℕ} {e : K} (c : ℕ) {a : Fn 𝓢 q} → Lead w e a → Lead (w + q * c) e (timesX 𝓢 q c a)
   lead-x c {a} l = record {
@@ -96,11 +109,17 @@ module _ (𝓢 : Symbols) (q : ℕ) where
       rw (same .0, same .1) (l .coefficient)
 
 module _ {𝓢 : Symbols} {q : ℕ} (𝓛 : Laws 𝓢 q) where
-  open Symbols 𝓢 using (K, 𝟘)
+  infixl 65 _⊖_
+  infixl 70 _⊗_
+  open Symbols 𝓢 using (K, 𝟘, _⊖_, minus, _⊗_)
 
   -- where b is zero the sum a + c b is a
   pub plus-left : (c : K) (a b : Fn 𝓢 q) (j i : ℕ) → b j i ≡ 𝟘 → plus 𝓢 q c a b j i ≡ a j i
   plus-left c a b j i h = plus-at 𝓢 q c a b j i ∙ simp (h, units, 𝓛)
+
+  -- a - c b, in this form
+  pub plus-minus : (c : K) (a b : Fn 𝓢 q) (j i : ℕ) → plus 𝓢 q (minus c) a b j i ≡ a j i ⊖ c ⊗ b j i
+  plus-minus c a b j i = plus-at 𝓢 q (minus c) a b j i ∙ simp (ring, 𝓛)
 
   pub cut-plus : {n m : ℕ} (c : K) {a b : Fn 𝓢 q} → Cut 𝓢 q n m a → Cut 𝓢 q n m b → Cut 𝓢 q n m (plus 𝓢 q c a b)
   cut-plus c {a} {b} ha hb = record { off = λ j i hj h. plus-left c a b j i (hb .off j i hj h) ∙ ha .off j i hj h }

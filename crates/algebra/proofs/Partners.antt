@@ -1,12 +1,13 @@
 -- The partner of i at step s: i' = (i + s) mod q. Going from i to i' is a permutation of the rows; and with q t + i' = i + s
 -- the monomials of weight s more than x^a y^i stand at k + i' = a + i + t, with no gap, integer or division.
 use mathlib.Core.Path.{_≡_, sym, ap, _∙_}
-use Prim.Native.Nat.{ℕ, zero, suc, _+_, _*_, _-_, _/_, _%_, _<_}
+use mathlib.Core.Bool.{true}
+use Prim.Native.Nat.{ℕ, zero, suc, _+_, _*_, _-_, _/_, _%_, _≤_, _<_}
 use native.Mathlib.Nat as Nat
 use native.Mathlib.Omega.{arith}
-use Rattle.algebra.specs.Weights.{weight}
+use Rattle.algebra.specs.Weights.{weight, nongap}
 use Rattle.algebra.proofs.NumberSums.{total, total-permuted}
-use Rattle.algebra.proofs.WeightLaws.{weight-rows, weight-mod, weight-x}
+use Rattle.algebra.proofs.WeightLaws.{weight-rows, weight-mod, weight-x, xPower-rows, nongap-weight, nongap-add}
 
 unfoldable pub partner : ℕ → ℕ → ℕ → ℕ
 partner q s i = (i + s) % q
@@ -90,3 +91,10 @@ module _ (q : ℕ) where
     -- no other row than j has a monomial of such a weight
     pub pair-row : (a j′ k : ℕ) → j′ < q → weight q j′ k ≡ weight q i a + s → j′ ≡ j
     pair-row a j′ k h e = sym (weight-mod q j′ k h) ∙ ap (λ n. n % q) e ∙ pair-remainder a
+
+    -- if s is no gap there is such a monomial: two non-gaps add up to a non-gap
+    pub pair-nonnegative : nongap q s ≡ true → (a : ℕ) → j ≤ a + i + P .t
+    pair-nonnegative h a =
+        let pos : 0 < q = omega (arith, P .small) in
+        let both = nongap-add q (weight q i a) s pos (nongap-weight q i a (P .small)) h in
+        omega (arith, xPower-rows q (weight q i a + s) pos both, pair-remainder a, pair-quotient a)

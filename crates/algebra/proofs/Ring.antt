@@ -163,6 +163,9 @@ module _ {𝓢 : Symbols} {q : ℕ} (𝓛 : Laws 𝓢 q) where
   pub number-cancel : (a b : K) → number a ≡ number b → a ≡ b
   number-cancel a b e = sym (𝓛 .symbol-number a) ∙ ap symbol e ∙ 𝓛 .symbol-number b
 
+  pub zero-of-number : (a : K) → number a ≡ 0 → a ≡ 𝟘
+  zero-of-number a e = number-cancel a 𝟘 (e ∙ sym (𝓛 .number-zero))
+
   pub decide : (a b : K) → Dec (a ≡ b)
   decide a b = elim (ℕ-discrete (number a) (number b)) [ yes e ↦ yes (number-cancel a b e) | no ne ↦ no (λ e. ne (ap number e)) ]
 

@@ -43,6 +43,10 @@ module _ (q : ℕ) where
   unfolding weight
   weight-strict j pos h = omega (arith, Nat.mul-le-mul-left q h)
 
+  pub weight-row-mono : {j j′ : ℕ} (i : ℕ) → j ≤ j′ → weight q j i ≤ weight q j′ i
+  unfolding weight
+  weight-row-mono i h = omega (arith, Nat.mul-le-mul-left (q + 1) h)
+
   pub weight-row-strict : {j j′ : ℕ} (i : ℕ) → j < j′ → weight q j i < weight q j′ i
   unfolding weight
   weight-row-strict i h = omega (arith, Nat.mul-le-mul-left (q + 1) h)
@@ -98,17 +102,22 @@ module _ (q : ℕ) where
   unfolding nongap gap
   le-nongap s h = ap not (le-ltb s ((q + 1) * (s % q)) h)
 
-  -- the monomial of a number that is no gap has that weight
-  pub powers-weigh : (s : ℕ) → 0 < q → nongap q s ≡ true → q * xPower q s + (q + 1) * yPower q s ≡ s
-  unfolding yPower xPower
-  powers-weigh s pos t =
+  -- the power of x of a number that is no gap: its quotient by q less its remainder
+  pub xPower-rows : (s : ℕ) → 0 < q → nongap q s ≡ true → xPower q s + s % q ≡ s / q
+  unfolding xPower
+  xPower-rows s pos t =
       let le = nongap-le s t in
       let d = Nat.div-add-mod s q in
       let rows : q * (s % q) ≤ q * (s / q) = omega arith in
       let r : s % q ≤ s / q = Nat.le-of-mul-le-mul-left rows pos in
       let m : (s / q - s % q) + s % q ≡ s / q = omega arith in
       let e : s - (q + 1) * (s % q) ≡ q * (s / q - s % q) = omega (arith, ap (λ n. q * n) m) in
-      rw (e, Nat.mul-div-cancel-left (s / q - s % q) pos) (omega (arith, ap (λ n. q * n) m))
+      rw (e, Nat.mul-div-cancel-left (s / q - s % q) pos) m
+
+  -- the monomial of a number that is no gap has that weight
+  pub powers-weigh : (s : ℕ) → 0 < q → nongap q s ≡ true → q * xPower q s + (q + 1) * yPower q s ≡ s
+  unfolding yPower
+  powers-weigh s pos t = omega (arith, Nat.div-add-mod s q, ap (λ n. q * n) (xPower-rows s pos t))
 
   pub weight-powers : (s : ℕ) → 0 < q → nongap q s ≡ true → weight q (yPower q s) (xPower q s) ≡ s
   unfolding weight
