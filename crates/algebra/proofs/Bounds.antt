@@ -18,6 +18,10 @@ module _ (𝓢 : Symbols) (q : ℕ) where
   infixl 70 _⊗_
   open Symbols 𝓢 using (K, 𝟘, _⊕_, _⊖_, _⊗_)
 
+  -- the same function: only the rows below q count
+  abbrev pub Agree : Fn 𝓢 q → Fn 𝓢 q → Type 0
+  Agree a b = (j i : ℕ) → j < q → a j i ≡ b j i
+
   -- every coefficient whose weight plus m is above n is zero
   pub record Cut (n m : ℕ) (a : Fn 𝓢 q) : Type 0 where
     pub off : (j i : ℕ) → j < q → n < weight q j i + m → a j i ≡ 𝟘
@@ -34,6 +38,7 @@ module _ (𝓢 : Symbols) (q : ℕ) where
   unfoldable pub plus : K → Fn 𝓢 q → Fn 𝓢 q → Fn 𝓢 q
   plus c a b j i = a j i ⊕ c ⊗ b j i
 
+  -- its coefficients
   pub plus-at : (c : K) (a b : Fn 𝓢 q) (j i : ℕ) → plus c a b j i ≡ a j i ⊕ c ⊗ b j i
   unfolding plus
   plus-at c a b j i = refl
@@ -43,10 +48,12 @@ module _ (𝓢 : Symbols) (q : ℕ) where
   unfolding timesY
   timesY-zero f i = refl
 
+  -- row 1 loses what y^q takes away
   pub timesY-one : (f : Fn 𝓢 q) (i : ℕ) → timesY 𝓢 q f 1 i ≡ f 0 i ⊖ f (q - 1) i
   unfolding timesY
   timesY-one f i = refl
 
+  -- the other rows move up by one
   pub timesY-more : (f : Fn 𝓢 q) (j i : ℕ) → timesY 𝓢 q f (suc (suc j)) i ≡ f (suc j) i
   unfolding timesY
   timesY-more f j i = refl
@@ -61,8 +68,8 @@ module _ (𝓢 : Symbols) (q : ℕ) where
     off = λ j i hj l. elim (ℕ-discrete (weight q j i) n) [ yes e ↦ z j i hj e | no ne ↦ h .off j i hj (omega arith) ];
   }
 
-  -- equal functions, in the rows that count
-  pub cut-cong : {n m : ℕ} {a b : Fn 𝓢 q} → ((j i : ℕ) → j < q → a j i ≡ b j i) → Cut n m a → Cut n m b
+  -- equal functions have the same bounds
+  pub cut-cong : {n m : ℕ} {a b : Fn 𝓢 q} → Agree a b → Cut n m a → Cut n m b
   cut-cong e h = record { off = λ j i hj l. sym (e j i hj) ∙ h .off j i hj l }
 
   -- a bound below qW leaves nothing from x^W on
@@ -74,10 +81,12 @@ module _ (𝓢 : Symbols) (q : ℕ) where
   cut-degree W h = record {
     off = λ j i hj l. elim (decLe W i) [
       | yes le ↦ h j i hj le
-      | no lt ↦ absurd (omega (arith, weight-row-mono q {j = j} {j′ = q - 1} i (omega arith), weight-mono q (q - 1) {i = i} {i′ = W - 1} (omega arith)))
+      | no lt ↦ let row = weight-row-mono q {j = j} {j′ = q - 1} i (omega arith) in
+          absurd (omega (arith, row, weight-mono q (q - 1) {i = i} {i′ = W - 1} (omega arith)))
     ];
   }
 
+  -- x^c raises a bound by q c
   pub cut-x : {n m : ℕ} (c : ℕ) {a : Fn 𝓢 q} → Cut n m a → Cut (n + q * c) m (timesX 𝓢 q c a)
   unfolding timesX
   cut-x {n} c {a} h = record {
@@ -89,10 +98,12 @@ module _ (𝓢 : Symbols) (q : ℕ) where
   unfolding timesX
   x-at c a j i = shift-add 𝓢 q c (a j) i
 
+  -- x^0 changes nothing
   pub x-zero : (a : Fn 𝓢 q) (j i : ℕ) → timesX 𝓢 q 0 a j i ≡ a j i
   unfolding timesX
   x-zero a j i = shift-zero 𝓢 q (a j) i
 
+  -- the coefficient at a weight goes with the product by x^c
   pub lead-x : {w : ℕ} {e : K} (c : ℕ) {a : Fn 𝓢 q} → Lead w e a → Lead (w + q * c) e (timesX 𝓢 q c a)
   lead-x c {a} l = record {
     j = l .j;
@@ -121,22 +132,26 @@ module _ {𝓢 : Symbols} {q : ℕ} (𝓛 : Laws 𝓢 q) where
   pub plus-minus : (c : K) (a b : Fn 𝓢 q) (j i : ℕ) → plus 𝓢 q (minus c) a b j i ≡ a j i ⊖ c ⊗ b j i
   plus-minus c a b j i = plus-at 𝓢 q (minus c) a b j i ∙ simp (ring, 𝓛)
 
+  -- a bound of a and of b is one of a + c b
   pub cut-plus : {n m : ℕ} (c : K) {a b : Fn 𝓢 q} → Cut 𝓢 q n m a → Cut 𝓢 q n m b → Cut 𝓢 q n m (plus 𝓢 q c a b)
   cut-plus c {a} {b} ha hb = record { off = λ j i hj h. plus-left c a b j i (hb .off j i hj h) ∙ ha .off j i hj h }
 
+  -- y raises a bound by q + 1
   pub cut-y : {n m : ℕ} {a : Fn 𝓢 q} → Cut 𝓢 q n m a → Cut 𝓢 q (n + (q + 1)) m (timesY 𝓢 q a)
   cut-y {n} {m} {a} h = record { off = go }
     where
       go : (j i : ℕ) → j < q → n + (q + 1) < weight q j i + m → timesY 𝓢 q a j i ≡ 𝟘
       go zero i hj l =
-          timesY-zero 𝓢 q a i
-          ∙ shift-none 𝓢 q (q + 1) (a (q - 1)) i (λ k e. h .off (q - 1) k (omega arith) (omega (arith, weight-wrap q k hj, rw e at l)))
+          timesY-zero 𝓢 q a i ∙ shift-none 𝓢 q (q + 1) (a (q - 1)) i (λ k e.
+          h .off (q - 1) k (omega arith) (omega (arith, weight-wrap q k hj, rw e at l)))
       go (suc zero) i hj l =
           let w = weight-y q 0 i in
           let last = weight-row-strict q {j = 0} {j′ = q - 1} i (omega arith) in
-          timesY-one 𝓢 q a i ∙ simp (h .off 0 i (omega arith) (omega arith), h .off (q - 1) i (omega arith) (omega arith), ring, 𝓛)
+          timesY-one 𝓢 q a i
+          ∙ simp (h .off 0 i (omega arith) (omega arith), h .off (q - 1) i (omega arith) (omega arith), ring, 𝓛)
       go (suc (suc j)) i hj l = timesY-more 𝓢 q a j i ∙ h .off (suc j) i (omega arith) (omega (arith, weight-y q (suc j) i))
 
+  -- the coefficient at the largest weight goes with the product by y
   pub lead-y : {w : ℕ} {c : K} {a : Fn 𝓢 q} → Cut 𝓢 q w 0 a → Lead 𝓢 q w c a → Lead 𝓢 q (w + (q + 1)) c (timesY 𝓢 q a)
   lead-y {w} {c} {a} h l = go (l .j) (l .i) (l .small) (l .weighs) (l .coefficient)
     where
@@ -154,7 +169,13 @@ module _ {𝓢 : Symbols} {q : ℕ} (𝓛 : Laws 𝓢 q) where
             coefficient = timesY-one 𝓢 q a i ∙ simp (h .off (q - 1) i (omega arith) (omega arith), ring, hc, 𝓛);
           }
       go (suc j) i hj hw hc = elim (decLt (suc (suc j)) q) [
-        | yes l ↦ record { j = suc (suc j); i = i; small = l; weighs = omega (arith, weight-y q (suc j) i); coefficient = timesY-more 𝓢 q a j i ∙ hc }
+        | yes l ↦ record {
+          j = suc (suc j);
+          i = i;
+          small = l;
+          weighs = omega (arith, weight-y q (suc j) i);
+          coefficient = timesY-more 𝓢 q a j i ∙ hc;
+        }
         | no l ↦ let e : q - 1 ≡ suc j = omega arith in record {
           j = 0;
           i = q + 1 + i;
@@ -164,12 +185,15 @@ module _ {𝓢 : Symbols} {q : ℕ} (𝓛 : Laws 𝓢 q) where
         }
       ]
 
+  -- y^b raises a bound by (q + 1) b
   pub cut-ys : (b : ℕ) {n m : ℕ} {a : Fn 𝓢 q} → Cut 𝓢 q n m a → Cut 𝓢 q (n + (q + 1) * b) m (timesYs 𝓢 q b a)
   unfolding timesYs
   cut-ys zero h = cut-le 𝓢 q (omega arith) h
   cut-ys (suc b) h = cut-le 𝓢 q (omega arith) (cut-y (cut-ys b h))
 
-  pub lead-ys : (b : ℕ) {w : ℕ} {c : K} {a : Fn 𝓢 q} → Cut 𝓢 q w 0 a → Lead 𝓢 q w c a → Lead 𝓢 q (w + (q + 1) * b) c (timesYs 𝓢 q b a)
+  -- and takes the coefficient at the largest weight along
+  pub lead-ys : (b : ℕ) {w : ℕ} {c : K} {a : Fn 𝓢 q} → Cut 𝓢 q w 0 a → Lead 𝓢 q w c a
+      → Lead 𝓢 q (w + (q + 1) * b) c (timesYs 𝓢 q b a)
   unfolding timesYs
   lead-ys zero {w} h l = let e : w + (q + 1) * 0 ≡ w = omega arith in rw e l
   lead-ys (suc b) {w} h l =
@@ -178,12 +202,18 @@ module _ {𝓢 : Symbols} {q : ℕ} (𝓛 : Laws 𝓢 q) where
 
   -- the weight of a product by the monomial of s is s more
   module _ (s : ℕ) (t : nongap q s ≡ true) where
+    -- it raises a bound by s
     pub cut-monomial : {n m : ℕ} {a : Fn 𝓢 q} → Cut 𝓢 q n m a → Cut 𝓢 q (n + s) m (timesMonomial 𝓢 q s a)
     unfolding timesMonomial
-    cut-monomial h = cut-le 𝓢 q (omega (arith, powers-weigh q s (omega (arith, two-le-q 𝓛)) t)) (cut-x 𝓢 q (xPower q s) (cut-ys (yPower q s) h))
+    cut-monomial h =
+        let e = powers-weigh q s (omega (arith, two-le-q 𝓛)) t in
+        cut-le 𝓢 q (omega arith) (cut-x 𝓢 q (xPower q s) (cut-ys (yPower q s) h))
 
-    pub lead-monomial : {w : ℕ} {c : K} {a : Fn 𝓢 q} → Cut 𝓢 q w 0 a → Lead 𝓢 q w c a → Lead 𝓢 q (w + s) c (timesMonomial 𝓢 q s a)
+    -- and takes the coefficient at the largest weight along
+    pub lead-monomial : {w : ℕ} {c : K} {a : Fn 𝓢 q} → Cut 𝓢 q w 0 a → Lead 𝓢 q w c a
+        → Lead 𝓢 q (w + s) c (timesMonomial 𝓢 q s a)
     unfolding timesMonomial
     lead-monomial {w} h l =
-        let e : w + s ≡ w + (q + 1) * yPower q s + q * xPower q s = omega (arith, powers-weigh q s (omega (arith, two-le-q 𝓛)) t) in
+        let both = powers-weigh q s (omega (arith, two-le-q 𝓛)) t in
+        let e : w + s ≡ w + (q + 1) * yPower q s + q * xPower q s = omega arith in
         rw e (lead-x 𝓢 q (xPower q s) (lead-ys (yPower q s) h l))

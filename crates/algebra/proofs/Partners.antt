@@ -9,6 +9,7 @@ use Rattle.algebra.specs.Weights.{weight, nongap}
 use Rattle.algebra.proofs.NumberSums.{total, total-permuted}
 use Rattle.algebra.proofs.WeightLaws.{weight-rows, weight-mod, weight-x, xPower-rows, nongap-weight, nongap-add}
 
+-- the partner of i at step s
 unfoldable pub partner : ℕ → ℕ → ℕ → ℕ
 partner q s i = (i + s) % q
 
@@ -22,20 +23,24 @@ there-and-back zero s h = absurd (omega arith)
 there-and-back (suc r) s h = let e : suc r - 1 ≡ r = omega arith in rw e (omega arith)
 
 module _ (q : ℕ) where
+  -- a partner is a row
   pub partner-below : (s i : ℕ) → 0 < q → partner q s i < q
   unfolding partner
   partner-below s i h = Nat.mod-lt (i + s) h
 
+  -- and so is the way back
   pub partnerBack-below : (s j : ℕ) → 0 < q → partnerBack q s j < q
   unfolding partnerBack
   partnerBack-below s j h = Nat.mod-lt (j + s * (q - 1)) h
 
+  -- back and forth
   pub partner-partnerBack : (s j : ℕ) → j < q → partner q s (partnerBack q s j) ≡ j
   unfolding partner partnerBack
   partner-partnerBack s j h =
       let e : j + s * (q - 1) + s ≡ j + q * s = omega (arith, there-and-back q s (omega arith)) in
       Nat.mod-add-mod (j + s * (q - 1)) q s ∙ ap (λ n. n % q) e ∙ Nat.add-mul-mod-self-left j q s ∙ Nat.mod-eq-of-lt h
 
+  -- forth and back
   pub partnerBack-partner : (s i : ℕ) → i < q → partnerBack q s (partner q s i) ≡ i
   unfolding partner partnerBack
   partnerBack-partner s i h =
@@ -59,15 +64,24 @@ module _ (q : ℕ) where
     pub small′ : j < q
     pub rows : i + s ≡ q * t + j
 
+  -- every row has its partner
   pub paired : (s i : ℕ) → i < q → Paired s i (partner q s i)
   unfolding partner
-  paired s i h = record { t = (i + s) / q; small = h; small′ = Nat.mod-lt (i + s) (omega arith); rows = sym (Nat.div-add-mod (i + s) q) }
+  paired s i h = record {
+    t = (i + s) / q;
+    small = h;
+    small′ = Nat.mod-lt (i + s) (omega arith);
+    rows = sym (Nat.div-add-mod (i + s) q);
+  }
 
   -- x^c times x^k y^j has the weight that x^e times x^D y^j has, if c + k = e + D; so s more than x^c times x^A y^i
-  pub pair-balance : (s i A j k c e D : ℕ) → weight q i A + s ≡ weight q j k → c + k ≡ e + D → weight q i (c + A) + s ≡ weight q j D + q * e
-  pair-balance s i A j k c e D pair even = omega (arith, weight-x q j e D, weight-x q i c A, weight-x q j c k, ap (weight q j) even)
+  pub pair-balance : (s i A j k c e D : ℕ) → weight q i A + s ≡ weight q j k → c + k ≡ e + D
+      → weight q i (c + A) + s ≡ weight q j D + q * e
+  pair-balance s i A j k c e D pair even =
+      omega (arith, weight-x q j e D, weight-x q i c A, weight-x q j c k, ap (weight q j) even)
 
   module _ {s i j : ℕ} (P : Paired s i j) where
+    -- the weight of x^a y^i and s, by rows
     pair-total : (a : ℕ) → weight q i a + s ≡ q * (a + i + P .t) + j
     pair-total a = omega (arith, P .rows, weight-rows q i a)
 
@@ -75,6 +89,7 @@ module _ (q : ℕ) where
     pub pair-remainder : (a : ℕ) → (weight q i a + s) % q ≡ j
     pair-remainder a = rw (pair-total a, Nat.mul-add-mod-self-left) (Nat.mod-eq-of-lt (P .small′))
 
+    -- the quotient
     pub pair-quotient : (a : ℕ) → (weight q i a + s) / q ≡ a + i + P .t
     pair-quotient a =
         ap (λ n. n / q) (pair-total a) ∙ Nat.mul-add-div (omega (arith, P .small)) (a + i + P .t) j
@@ -84,9 +99,11 @@ module _ (q : ℕ) where
     pub pair-weight : (a k : ℕ) → k + j ≡ a + i + P .t → weight q i a + s ≡ weight q j k
     pair-weight a k e = pair-total a ∙ ap (λ n. q * n + j) (sym e) ∙ sym (weight-rows q j k)
 
+    -- and every monomial of that weight in row j stands there
     pub pair-place : (a k : ℕ) → weight q i a + s ≡ weight q j k → k + j ≡ a + i + P .t
     pair-place a k e =
-        Nat.eq-of-mul-eq-mul-left q (omega (arith, P .small)) (k + j) (a + i + P .t) (omega (arith, pair-total a, weight-rows q j k))
+        let rows : q * (k + j) ≡ q * (a + i + P .t) = omega (arith, pair-total a, weight-rows q j k) in
+        Nat.eq-of-mul-eq-mul-left q (omega (arith, P .small)) (k + j) (a + i + P .t) rows
 
     -- no other row than j has a monomial of such a weight
     pub pair-row : (a j′ k : ℕ) → j′ < q → weight q j′ k ≡ weight q i a + s → j′ ≡ j

@@ -25,9 +25,11 @@ module _ (𝓢 : Symbols) (q : ℕ) where
   unfolding shift
   shift-below c a i h = rw (lt-ltb i c h, shift)
 
+  -- the coefficient c places on
   pub shift-add : (c : ℕ) (a : ℕ → K) (i : ℕ) → shift 𝓢 q c a (c + i) ≡ a i
   shift-add c a i = shift-at c a (c + i) (omega arith) ∙ ap a (omega arith)
 
+  -- x^0 changes nothing
   pub shift-zero : (a : ℕ → K) (i : ℕ) → shift 𝓢 q 0 a i ≡ a i
   shift-zero a i = shift-at 0 a i (omega arith) ∙ ap a (omega arith)
 
@@ -38,17 +40,12 @@ module _ (𝓢 : Symbols) (q : ℕ) where
     | no l ↦ shift-below c a i (omega arith)
   ]
 
-  -- equal coefficients have equal shifts
-  pub shift-cong : (c : ℕ) {a b : ℕ → K} (i : ℕ) → ((n : ℕ) → a n ≡ b n) → shift 𝓢 q c a i ≡ shift 𝓢 q c b i
-  shift-cong c {a} {b} i h = elim (decLe c i) [
-    | yes l ↦ shift-at c a i l ∙ h (i - c) ∙ sym (shift-at c b i l)
-    | no l ↦ shift-below c a i (omega arith) ∙ sym (shift-below c b i (omega arith))
-  ]
-
+  -- the value is a sum over the coefficients
   pub valueIn-def : (W : ℕ) (a : ℕ → K) (x : K) → valueIn 𝓢 q W a x ≡ sum 𝓢 W (λ i. a i ⊗ power 𝓢 x i)
   unfolding valueIn
   valueIn-def W a x = refl
 
+  -- no coefficient, no value
   pub valueIn-zero : (a : ℕ → K) (x : K) → valueIn 𝓢 q 0 a x ≡ 𝟘
   valueIn-zero a x = valueIn-def 0 a x ∙ sum-zero 𝓢 (λ i. a i ⊗ power 𝓢 x i)
 
@@ -58,7 +55,8 @@ module _ (𝓢 : Symbols) (q : ℕ) where
   valueIn-suc W a x = sum-suc 𝓢 W (λ i. a i ⊗ power 𝓢 x i)
 
   -- equal coefficients below the width
-  pub valueIn-cong : (W : ℕ) {a b : ℕ → K} (x : K) → ((i : ℕ) → i < W → a i ≡ b i) → valueIn 𝓢 q W a x ≡ valueIn 𝓢 q W b x
+  pub valueIn-cong : (W : ℕ) {a b : ℕ → K} (x : K) → ((i : ℕ) → i < W → a i ≡ b i)
+      → valueIn 𝓢 q W a x ≡ valueIn 𝓢 q W b x
   unfolding valueIn
   valueIn-cong W x h = sum-cong 𝓢 W (λ i hi. ap (λ z. z ⊗ power 𝓢 x i) (h i hi))
 
@@ -72,21 +70,27 @@ module _ {𝓢 : Symbols} {q : ℕ} (𝓛 : Laws 𝓢 q) where
   unfolding valueIn
   valueIn-none W x h = sum-none 𝓛 W (λ i hi. simp (h i hi, zero-mul 𝓛))
 
-  pub valueIn-add : (W : ℕ) (a b : ℕ → K) (x : K) → valueIn 𝓢 q W (λ i. a i ⊕ b i) x ≡ valueIn 𝓢 q W a x ⊕ valueIn 𝓢 q W b x
+  -- values of sums
+  pub valueIn-add : (W : ℕ) (a b : ℕ → K) (x : K)
+      → valueIn 𝓢 q W (λ i. a i ⊕ b i) x ≡ valueIn 𝓢 q W a x ⊕ valueIn 𝓢 q W b x
   unfolding valueIn
   valueIn-add W a b x = simp (add-mul 𝓛, sum-add 𝓛 W (λ i. a i ⊗ power 𝓢 x i) (λ i. b i ⊗ power 𝓢 x i))
 
-  pub valueIn-sub : (W : ℕ) (a b : ℕ → K) (x : K) → valueIn 𝓢 q W (λ i. a i ⊖ b i) x ≡ valueIn 𝓢 q W a x ⊖ valueIn 𝓢 q W b x
+  -- values of differences
+  pub valueIn-sub : (W : ℕ) (a b : ℕ → K) (x : K)
+      → valueIn 𝓢 q W (λ i. a i ⊖ b i) x ≡ valueIn 𝓢 q W a x ⊖ valueIn 𝓢 q W b x
   unfolding valueIn
   valueIn-sub W a b x =
       sum-cong 𝓢 W (λ i hi. simp (ring, 𝓛)) ∙ sum-sub 𝓛 W (λ i. a i ⊗ power 𝓢 x i) (λ i. b i ⊗ power 𝓢 x i)
 
+  -- values of multiples
   pub valueIn-scale : (W : ℕ) (c : K) (a : ℕ → K) (x : K) → valueIn 𝓢 q W (λ i. c ⊗ a i) x ≡ c ⊗ valueIn 𝓢 q W a x
   unfolding valueIn
   valueIn-scale W c a x = simp (mul-assoc 𝓛, mul-sum 𝓛 W c (λ i. a i ⊗ power 𝓢 x i))
 
   -- a wider sum adds nothing where the further coefficients are zero
-  pub valueIn-widen : (U W : ℕ) (a : ℕ → K) (x : K) → U ≤ W → ((i : ℕ) → U ≤ i → a i ≡ 𝟘) → valueIn 𝓢 q W a x ≡ valueIn 𝓢 q U a x
+  pub valueIn-widen : (U W : ℕ) (a : ℕ → K) (x : K) → U ≤ W → ((i : ℕ) → U ≤ i → a i ≡ 𝟘)
+      → valueIn 𝓢 q W a x ≡ valueIn 𝓢 q U a x
   unfolding valueIn
   valueIn-widen U W a x l h = sum-widen 𝓛 (λ i. a i ⊗ power 𝓢 x i) l (λ i hi. simp (h i hi, zero-mul 𝓛))
 
@@ -94,8 +98,10 @@ module _ {𝓢 : Symbols} {q : ℕ} (𝓛 : Laws 𝓢 q) where
   pub valueIn-head : (W : ℕ) (a : ℕ → K) (x : K) → valueIn 𝓢 q (suc W) a x ≡ a 0 ⊕ x ⊗ valueIn 𝓢 q W (λ i. a (suc i)) x
   unfolding valueIn
   valueIn-head W a x =
-      sum-head 𝓛 W (λ i. a i ⊗ power 𝓢 x i) ∙ simp (power-zero, power-suc, mul-one 𝓛, mul-sum 𝓛 W x (λ i. a (suc i) ⊗ power 𝓢 x i), sorted*, 𝓛)
+      sum-head 𝓛 W (λ i. a i ⊗ power 𝓢 x i)
+      ∙ simp (power-zero, power-suc, mul-one 𝓛, mul-sum 𝓛 W x (λ i. a (suc i) ⊗ power 𝓢 x i), sorted*, 𝓛)
 
+  -- the value of x^c a, where the width is c and the places of a
   valueIn-shift-split : (c n : ℕ) (a : ℕ → K) (x : K) → ((i : ℕ) → n ≤ i → a i ≡ 𝟘)
       → valueIn 𝓢 q (c + n) (shift 𝓢 q c a) x ≡ power 𝓢 x c ⊗ valueIn 𝓢 q (c + n) a x
   unfolding valueIn
@@ -103,12 +109,18 @@ module _ {𝓢 : Symbols} {q : ℕ} (𝓛 : Laws 𝓢 q) where
       sum 𝓢 (c + n) (λ i. shift 𝓢 q c a i ⊗ power 𝓢 x i)
       ≡⟨ sum-split 𝓛 c n (λ i. shift 𝓢 q c a i ⊗ power 𝓢 x i) ⟩
       sum 𝓢 c (λ i. shift 𝓢 q c a i ⊗ power 𝓢 x i) ⊕ sum 𝓢 n (λ i. shift 𝓢 q c a (c + i) ⊗ power 𝓢 x (c + i))
-      ≡⟨ ap₂ _⊕_ (sum-none 𝓛 c (λ i hi. simp (shift-below 𝓢 q c a i hi, zero-mul 𝓛))) (simp (shift-add, power-add 𝓛, mul-sum 𝓛 n (power 𝓢 x c) (λ i. a i ⊗ power 𝓢 x i), sorted*, 𝓛)) ⟩
+      ≡⟨ ap₂ _⊕_ (sum-none 𝓛 c (λ i hi. simp (shift-below 𝓢 q c a i hi, zero-mul 𝓛))) moved ⟩
       𝟘 ⊕ power 𝓢 x c ⊗ sum 𝓢 n (λ i. a i ⊗ power 𝓢 x i)
       ≡⟨ zero-add 𝓛 (power 𝓢 x c ⊗ sum 𝓢 n (λ i. a i ⊗ power 𝓢 x i)) ⟩
       power 𝓢 x c ⊗ sum 𝓢 n (λ i. a i ⊗ power 𝓢 x i)
-      ≡⟨ ap (λ z. power 𝓢 x c ⊗ z) (sym (sum-widen 𝓛 (λ i. a i ⊗ power 𝓢 x i) (omega arith) (λ i hi. simp (h i hi, zero-mul 𝓛)))) ⟩
+      ≡⟨ ap (λ z. power 𝓢 x c ⊗ z) (sym wider) ⟩
       power 𝓢 x c ⊗ sum 𝓢 (c + n) (λ i. a i ⊗ power 𝓢 x i) ∎
+    where
+      moved : sum 𝓢 n (λ i. shift 𝓢 q c a (c + i) ⊗ power 𝓢 x (c + i)) ≡ power 𝓢 x c ⊗ sum 𝓢 n (λ i. a i ⊗ power 𝓢 x i)
+      moved = simp (shift-add, power-add 𝓛, mul-sum 𝓛 n (power 𝓢 x c) (λ i. a i ⊗ power 𝓢 x i), sorted*, 𝓛)
+
+      wider : sum 𝓢 (c + n) (λ i. a i ⊗ power 𝓢 x i) ≡ sum 𝓢 n (λ i. a i ⊗ power 𝓢 x i)
+      wider = sum-widen 𝓛 (λ i. a i ⊗ power 𝓢 x i) (omega arith) (λ i hi. simp (h i hi, zero-mul 𝓛))
 
   -- the value of x^c a, where no coefficient is moved past the width
   pub valueIn-shift : (W c : ℕ) (a : ℕ → K) (x : K) → ((i : ℕ) → W ≤ i + c → a i ≡ 𝟘)
@@ -117,5 +129,6 @@ module _ {𝓢 : Symbols} {q : ℕ} (𝓛 : Laws 𝓢 q) where
       elim (decLe c W) [
         | yes l ↦ let e : c + (W - c) ≡ W = omega arith in
             rw (← e) (valueIn-shift-split c (W - c) a x (λ i hi. h i (omega arith)))
-        | no l ↦ simp (valueIn-none W {a = a} x (λ i hi. h i (omega arith)), valueIn-none W {a = shift 𝓢 q c a} x (λ i hi. shift-below 𝓢 q c a i (omega arith)), mul-zero 𝓛)
+        | no l ↦ let none = valueIn-none W {a = a} x (λ i hi. h i (omega arith)) in
+            valueIn-none W x (λ i hi. shift-below 𝓢 q c a i (omega arith)) ∙ simp (none, mul-zero 𝓛)
       ]

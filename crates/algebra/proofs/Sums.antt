@@ -13,10 +13,12 @@ module _ (𝓢 : Symbols) where
   infixl 65 _⊕_
   open Symbols 𝓢 using (K, 𝟘, _⊕_)
 
+  -- no term
   pub sum-zero : (f : ℕ → K) → sum 𝓢 0 f ≡ 𝟘
   unfolding sum
   sum-zero f = refl
 
+  -- the last term apart
   pub sum-suc : (n : ℕ) (f : ℕ → K) → sum 𝓢 (suc n) f ≡ sum 𝓢 n f ⊕ f n
   unfolding sum
   sum-suc n f = refl
@@ -32,6 +34,7 @@ module _ {𝓢 : Symbols} {q : ℕ} (𝓛 : Laws 𝓢 q) where
   infixl 70 _⊗_
   open Symbols 𝓢 using (K, 𝟘, _⊕_, _⊖_, minus, _⊗_)
 
+  -- a sum of zeros
   pub sum-of-zeros : (n : ℕ) → sum 𝓢 n (λ k. 𝟘) ≡ 𝟘
   unfolding sum
   sum-of-zeros zero = refl
@@ -41,16 +44,19 @@ module _ {𝓢 : Symbols} {q : ℕ} (𝓛 : Laws 𝓢 q) where
   pub sum-none : (n : ℕ) {f : ℕ → K} → ((k : ℕ) → k < n → f k ≡ 𝟘) → sum 𝓢 n f ≡ 𝟘
   sum-none n h = sum-cong 𝓢 n h ∙ sum-of-zeros n
 
+  -- sums are added term by term
   pub sum-add : (n : ℕ) (f g : ℕ → K) → sum 𝓢 n (λ k. f k ⊕ g k) ≡ sum 𝓢 n f ⊕ sum 𝓢 n g
   unfolding sum
   sum-add zero f g = sym (add-zero 𝓛 𝟘)
   sum-add (suc n) f g = simp (sum-add n f g, sorted+, 𝓛)
 
+  -- negated term by term
   pub sum-minus : (n : ℕ) (f : ℕ → K) → sum 𝓢 n (λ k. minus (f k)) ≡ minus (sum 𝓢 n f)
   unfolding sum
   sum-minus zero f = sym (minus-zero 𝓛)
   sum-minus (suc n) f = simp (sum-suc, sum-minus n f, minus-add 𝓛)
 
+  -- subtracted term by term
   pub sum-sub : (n : ℕ) (f g : ℕ → K) → sum 𝓢 n (λ k. f k ⊖ g k) ≡ sum 𝓢 n f ⊖ sum 𝓢 n g
   sum-sub n f g = simp (sub-def 𝓛, sum-add n f (λ k. minus (g k)), sum-minus n g)
 
@@ -60,6 +66,7 @@ module _ {𝓢 : Symbols} {q : ℕ} (𝓛 : Laws 𝓢 q) where
   mul-sum zero c f = mul-zero 𝓛 c
   mul-sum (suc n) c f = simp (mul-add 𝓛, mul-sum n c f)
 
+  -- from the right
   pub sum-mul : (n : ℕ) (c : K) (f : ℕ → K) → sum 𝓢 n f ⊗ c ≡ sum 𝓢 n (λ k. f k ⊗ c)
   sum-mul n c f = mul-comm 𝓛 (sum 𝓢 n f) c ∙ mul-sum n c f ∙ sum-cong 𝓢 n (λ k hk. mul-comm 𝓛 c (f k))
 
@@ -67,20 +74,24 @@ module _ {𝓢 : Symbols} {q : ℕ} (𝓛 : Laws 𝓢 q) where
   pub sum-merge : (n : ℕ) (f g : ℕ → K) → sum 𝓢 n f ⊕ sum 𝓢 n g ≡ sum 𝓢 n (λ k. f k ⊕ g k)
   sum-merge n f g = sym (sum-add n f g)
 
+  -- the same with more behind
   pub sum-merge′ : (n : ℕ) (f g : ℕ → K) (c : K) → sum 𝓢 n f ⊕ (sum 𝓢 n g ⊕ c) ≡ sum 𝓢 n (λ k. f k ⊕ g k) ⊕ c
   sum-merge′ n f g c = rw (← add-assoc 𝓛 (sum 𝓢 n f) (sum 𝓢 n g) c) (ap (λ z. z ⊕ c) (sum-merge n f g))
 
+  -- a negation goes in
   pub minus-sum : (n : ℕ) (f : ℕ → K) → minus (sum 𝓢 n f) ≡ sum 𝓢 n (λ k. minus (f k))
   minus-sum n f = sym (sum-minus n f)
 
   -- beside `ring`: an identity of sums over the same bounds
   pub ruleset sums = (sum-of-zeros, sum-merge, sum-merge′, minus-sum, mul-sum, sum-mul)
 
+  -- the order of summation
   pub sum-swap : (m n : ℕ) (f : ℕ → ℕ → K) → sum 𝓢 m (λ i. sum 𝓢 n (λ j. f i j)) ≡ sum 𝓢 n (λ j. sum 𝓢 m (λ i. f i j))
   unfolding sum
   sum-swap zero n f = sym (sum-of-zeros n)
   sum-swap (suc m) n f = simp (sum-suc, sum-swap m n f, sum-add n (λ j. sum 𝓢 m (λ i. f i j)) (λ j. f m j))
 
+  -- the first m terms apart
   pub sum-split : (m n : ℕ) (f : ℕ → K) → sum 𝓢 (m + n) f ≡ sum 𝓢 m f ⊕ sum 𝓢 n (λ k. f (m + k))
   unfolding sum
   sum-split m zero f = simp (Nat.add-zero, add-zero 𝓛)
@@ -90,7 +101,7 @@ module _ {𝓢 : Symbols} {q : ℕ} (𝓛 : Laws 𝓢 q) where
   pub sum-head : (n : ℕ) (f : ℕ → K) → sum 𝓢 (suc n) f ≡ f 0 ⊕ sum 𝓢 n (λ k. f (suc k))
   unfolding sum
   sum-head zero f = simp (zero-add 𝓛, add-zero 𝓛)
-  sum-head (suc n) f = rw (← add-assoc 𝓛 (f 0) (sum 𝓢 n (λ k. f (suc k))) (f (suc n))) (ap (λ x. x ⊕ f (suc n)) (sum-head n f))
+  sum-head (suc n) f = ap (λ x. x ⊕ f (suc n)) (sum-head n f) ∙ add-assoc 𝓛 (f 0) (sum 𝓢 n (λ k. f (suc k))) (f (suc n))
 
   -- the first two terms apart
   pub sum-heads : (n : ℕ) (f : ℕ → K) → 2 ≤ n → sum 𝓢 n f ≡ f 0 ⊕ (f 1 ⊕ sum 𝓢 (n - 2) (λ k. f (suc (suc k))))
@@ -114,7 +125,8 @@ module _ {𝓢 : Symbols} {q : ℕ} (𝓛 : Laws 𝓢 q) where
   pub sum-widen : {m n : ℕ} (f : ℕ → K) → m ≤ n → ((k : ℕ) → m ≤ k → f k ≡ 𝟘) → sum 𝓢 n f ≡ sum 𝓢 m f
   sum-widen {m} {n} f l h =
       let e : m + (n - m) ≡ n = omega arith in
-      rw (← e) (sum-split m (n - m) f ∙ ap (λ x. sum 𝓢 m f ⊕ x) (sum-none (n - m) (λ k hk. h (m + k) (omega arith))) ∙ add-zero 𝓛 (sum 𝓢 m f))
+      let none = sum-none (n - m) (λ k hk. h (m + k) (omega arith)) in
+      ap (λ k. sum 𝓢 k f) (sym e) ∙ sum-split m (n - m) f ∙ ap (λ x. sum 𝓢 m f ⊕ x) none ∙ add-zero 𝓛 (sum 𝓢 m f)
 
   -- one term that is not zero
   pub sum-single : (n i : ℕ) (f : ℕ → K) → i < n → ((k : ℕ) → k < n → k ≢ i → f k ≡ 𝟘) → sum 𝓢 n f ≡ f i

@@ -31,22 +31,27 @@ module _ (q : ℕ) where
   unfolding weight
   weight-ys j i = omega arith
 
+  -- 1 has weight 0
   pub weight-origin : weight q 0 0 ≡ 0
   unfolding weight
   weight-origin = omega arith
 
+  -- a larger power of x weighs more
   pub weight-mono : (j : ℕ) {i i′ : ℕ} → i ≤ i′ → weight q j i ≤ weight q j i′
   unfolding weight
   weight-mono j h = omega (arith, Nat.mul-le-mul-left q h)
 
+  -- strictly so
   pub weight-strict : (j : ℕ) {i i′ : ℕ} → 0 < q → i < i′ → weight q j i < weight q j i′
   unfolding weight
   weight-strict j pos h = omega (arith, Nat.mul-le-mul-left q h)
 
+  -- a larger power of y weighs more
   pub weight-row-mono : {j j′ : ℕ} (i : ℕ) → j ≤ j′ → weight q j i ≤ weight q j′ i
   unfolding weight
   weight-row-mono i h = omega (arith, Nat.mul-le-mul-left (q + 1) h)
 
+  -- strictly so
   pub weight-row-strict : {j j′ : ℕ} (i : ℕ) → j < j′ → weight q j i < weight q j′ i
   unfolding weight
   weight-row-strict i h = omega (arith, Nat.mul-le-mul-left (q + 1) h)
@@ -61,6 +66,7 @@ module _ (q : ℕ) where
   unfolding weight
   weight-wide j h = omega (arith, Nat.mul-le-mul-left q h)
 
+  -- the power of y is the weight modulo q
   pub weight-mod : (j i : ℕ) → j < q → weight q j i % q ≡ j
   weight-mod j i h = rw (weight-rows, Nat.mul-add-mod-self-left) (Nat.mod-eq-of-lt h)
 
@@ -69,17 +75,20 @@ module _ (q : ℕ) where
   unfolding weight
   weight-inj j i j′ i′ h h′ e =
       let ej : j ≡ j′ = sym (weight-mod j i h) ∙ ap (λ n. n % q) e ∙ weight-mod j′ i′ h′ in
-      (ej, Nat.eq-of-mul-eq-mul-left q (omega arith) i i′ (Nat.add-right-cancel ((q + 1) * j) (e ∙ ap (λ n. q * i′ + (q + 1) * n) (sym ej))))
+      let ei : q * i ≡ q * i′ = Nat.add-right-cancel ((q + 1) * j) (e ∙ ap (λ n. q * i′ + (q + 1) * n) (sym ej)) in
+      (ej, Nat.eq-of-mul-eq-mul-left q (omega arith) i i′ ei)
 
   -- the monomial of a weight
   pub yPower-below : (s : ℕ) → 0 < q → yPower q s < q
   unfolding yPower
   yPower-below s h = Nat.mod-lt s h
 
+  -- it has the power of y back
   pub yPower-weight : (j i : ℕ) → j < q → yPower q (weight q j i) ≡ j
   unfolding yPower
   yPower-weight = weight-mod
 
+  -- and the power of x
   pub xPower-weight : (j i : ℕ) → j < q → xPower q (weight q j i) ≡ i
   unfolding xPower weight
   xPower-weight j i h =
@@ -98,6 +107,7 @@ module _ (q : ℕ) where
   unfolding nongap gap
   nongap-le s t = ltb-false s ((q + 1) * (s % q)) (not-true (gap q s) t)
 
+  -- and back
   le-nongap : (s : ℕ) → (q + 1) * (s % q) ≤ s → nongap q s ≡ true
   unfolding nongap gap
   le-nongap s h = ap not (le-ltb s ((q + 1) * (s % q)) h)
@@ -119,10 +129,12 @@ module _ (q : ℕ) where
   unfolding yPower
   powers-weigh s pos t = omega (arith, Nat.div-add-mod s q, ap (λ n. q * n) (xPower-rows s pos t))
 
+  -- the same as a weight
   pub weight-powers : (s : ℕ) → 0 < q → nongap q s ≡ true → weight q (yPower q s) (xPower q s) ≡ s
   unfolding weight
   weight-powers = powers-weigh
 
+  -- y^j alone weighs at most as much
   weight-heavy : (j i : ℕ) → (q + 1) * j ≤ weight q j i
   unfolding weight
   weight-heavy j i = omega arith
@@ -141,10 +153,13 @@ module _ (q : ℕ) where
   unfolding weight
   weight-add j i j′ i′ = omega arith
 
-  weight-add-wrap : (j i j′ i′ : ℕ) → q ≤ j + j′ → weight q j i + weight q j′ i′ ≡ weight q (j + j′ - q) (i + i′ + (q + 1))
+  -- the same with y^q rewritten
+  weight-add-wrap : (j i j′ i′ : ℕ) → q ≤ j + j′
+      → weight q j i + weight q j′ i′ ≡ weight q (j + j′ - q) (i + i′ + (q + 1))
   unfolding weight
   weight-add-wrap j i j′ i′ l = let e : j + j′ ≡ q + (j + j′ - q) = omega arith in omega (arith, ap (λ n. (q + 1) * n) e)
 
+  -- a sum of two weights is no gap
   nongap-weights : (j i j′ i′ : ℕ) → j < q → j′ < q → nongap q (weight q j i + weight q j′ i′) ≡ true
   nongap-weights j i j′ i′ h h′ = elim (decLt (j + j′) q) [
     | yes l ↦ rw (weight-add j i j′ i′) (nongap-weight (j + j′) (i + i′) l)
