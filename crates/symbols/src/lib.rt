@@ -1,1 +1,108 @@
-// The symbols of q = 2 and q = 4 as bytes.
+// The symbols of q = 2 and q = 4 as bytes: sums, products, inverses and powers, total on bytes. A byte counts as the symbol of
+// its remainder by q².
+mod tables;
+
+ghost use mathlib.Core.Path.{_≡_};
+ghost use mathlib.Core.Bool.{not};
+ghost use Prim.Native.Nat.{_+_, _≤_};
+ghost use lib.ListN.{length, replicate};
+ghost use lib.Bits.{bitXor};
+ghost use Rattle.algebra.specs.Symbols.{power as powerOf};
+ghost use Rattle.symbols.specs.Rule.{isKnown, Known, symbols, number, symbol, anyBeyond};
+ghost use Rattle.symbols.specs.Tables.{productRow, after};
+ghost use Rattle.lists.specs.Tables.{put};
+
+// Whether there is a field for this q.
+pub fn is_known(q: usize) -> bool
+    ensures { λ r. ⌜ r ≡ isKnown q ⌝ }
+{
+    q == 2 || q == 4
+}
+
+// The sum is exclusive or.
+pub fn sum(a: u8, b: u8) -> u8
+    ensures { λ r. ⌜ r ≡ bitXor a b ⌝ }
+{
+    a ^ b
+}
+
+pub fn product(q: usize, a: u8, b: u8) -> u8
+    requires { ⌜ Known q ⌝ }
+    ensures { λ r. ⌜ r ≡ number q (symbols q ._⊗_ (symbol q a) (symbol q b)) ⌝ }
+{
+    if q == 4 {
+        tables::PRODUCTS_4[(a % 16) as usize * 16 + (b % 16) as usize]
+    } else {
+        tables::PRODUCTS_2[(a % 4) as usize * 4 + (b % 4) as usize]
+    }
+}
+
+pub fn inverse(q: usize, a: u8) -> u8
+    requires { ⌜ Known q ⌝ }
+    ensures { λ r. ⌜ r ≡ number q (symbols q .inverse (symbol q a)) ⌝ }
+{
+    if q == 4 {
+        tables::INVERSES_4[(a % 16) as usize]
+    } else {
+        tables::INVERSES_2[(a % 4) as usize]
+    }
+}
+
+// The n bytes of a table from a start on, and zeros up to sixteen.
+fn part_of(table: &[u8], start: usize, n: usize) -> [u8; 16]
+    requires { ⌜ (n ≤ 16) × (start + n ≤ length (now table)) ⌝ }
+    ensures { λ r. ⌜ r ≡ put (replicate 16 0) 0 n (after (now (table .entry)) start) ⌝ }
+{
+    let mut row = [0u8; 16];
+    let mut i = 0;
+    while i < n {
+        row[i] = table[start + i];
+        i += 1;
+    }
+    row
+}
+
+// The products of `a` by all symbols, for loops with one factor: place b holds the product by b.
+pub fn products_of(q: usize, a: u8) -> [u8; 16]
+    requires { ⌜ Known q ⌝ }
+    ensures { λ r. ⌜ r ≡ productRow q a ⌝ }
+{
+    if q == 4 {
+        part_of(&tables::PRODUCTS_4, (a % 16) as usize * 16, 16)
+    } else {
+        part_of(&tables::PRODUCTS_2, (a % 4) as usize * 4, 4)
+    }
+}
+
+// The n-th power, by squaring; 0 to the power 0 is 1.
+pub fn power(q: usize, a: u8, n: usize) -> u8
+    requires { ⌜ Known q ⌝ }
+    ensures { λ r. ⌜ r ≡ number q (powerOf (symbols q) (symbol q a) n) ⌝ }
+{
+    let mut result = 1u8;
+    let mut base = a;
+    let mut left = n;
+    while 0 < left {
+        let factor = if left % 2 == 1 { base } else { 1 };
+        result = product(q, result, factor);
+        base = product(q, base, base);
+        left = left / 2;
+    }
+    result
+}
+
+// Whether each byte of the list is a symbol, that is, below q².
+pub fn all_symbols(q: usize, list: &[u8]) -> bool
+    requires { ⌜ Known q ⌝ }
+    ensures { λ r. ⌜ r ≡ not (anyBeyond q (now (list .entry))) ⌝ }
+{
+    let size = (q * q) as u8;
+    let mut i = 0;
+    while i < list.len() {
+        if size <= list[i] {
+            return false;
+        }
+        i += 1;
+    }
+    true
+}
