@@ -1,4 +1,4 @@
--- Finite sums of numbers, for the degrees of all polynomials together: congruence, order, addition, one term apart, and the
+-- Finite sums of numbers, for the degrees of all polynomials together: congruence, addition, one term apart, and the
 -- same sum in another order.
 use mathlib.Core.Path.{_≡_, refl, sym, ap, ap₂, _∙_}
 use mathlib.Core.Logic.{_≢_}
