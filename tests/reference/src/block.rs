@@ -41,8 +41,8 @@ pub enum Verdict {
 
 /// The number of rows of a block that is exactly as document 01 says, or nothing.
 pub fn row_count(block: &[u8]) -> Option<usize> {
-    let header: &[u8; HEADER_BYTES] = block.first_chunk()?;
-    let [l0, l1, l2, l3, version, u, r0, r1] = *header;
+    let header: [u8; HEADER_BYTES] = block.get(..HEADER_BYTES)?.try_into().ok()?;
+    let [l0, l1, l2, l3, version, u, r0, r1] = header;
     let length = u32::from_be_bytes([l0, l1, l2, l3]) as usize;
     let rows = usize::from(u16::from_be_bytes([r0, r1]));
     let as_document_01_says = version == VERSION
@@ -72,8 +72,9 @@ pub fn pack(symbols: &[u8]) -> Vec<u8> {
 /// Compares each row of a block with its 20 bytes of payload and records each outcome.
 /// Refusals: 9, 10, 11, 6, in this order. Otherwise its part of `work` ends zero.
 pub fn verify(block: &[u8], payload: &[u8], records: &mut [Record], work: &mut [u8]) -> Verdict {
-    let Some(rows) = row_count(block) else {
-        return Verdict::Refused(BAD_BLOCK);
+    let rows = match row_count(block) {
+        Some(rows) => rows,
+        None => return Verdict::Refused(BAD_BLOCK),
     };
     if payload.len() != PAYLOAD_BYTES * rows {
         return Verdict::Refused(BAD_PAYLOAD);
@@ -103,16 +104,19 @@ fn outcome(row: &[u8], original: &[u8], work: &mut [u8]) -> Record {
         &mut message,
         &mut corrected,
     );
-    let Ok(count) = answer else {
-        return Record {
+    match answer {
+        Ok(count) if message[..] == unpack(original)[..] => Record {
+            state: EQUAL,
+            count,
+        },
+        Ok(count) => Record {
+            state: OTHER_MESSAGE,
+            count,
+        },
+        Err(_) => Record {
             state: UNREADABLE,
             count: 0,
-        };
-    };
-    let equal = message[..] == unpack(original)[..];
-    Record {
-        state: if equal { EQUAL } else { OTHER_MESSAGE },
-        count,
+        },
     }
 }
 

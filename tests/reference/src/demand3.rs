@@ -67,8 +67,8 @@ fn leading_terms_are_in_their_places(state: &State) -> Result<(), String> {
     }
     for i in 0..q {
         let (in_g, in_f) = (leading(state, &state.g[i]), leading(state, &state.f[i]));
-        let g_holds = in_g.is_some_and(|m| m == Monomial::lower(m.x, i));
-        let f_holds = in_f.is_some_and(|m| m == Monomial::upper(m.x, i));
+        let g_holds = in_g.map_or(false, |m| m == Monomial::lower(m.x, i));
+        let f_holds = in_f.map_or(false, |m| m == Monomial::upper(m.x, i));
         if !g_holds || !f_holds {
             let weight = state.weight;
             return Err(format!(

@@ -6,32 +6,38 @@
 use crate::curve::{points, Point};
 use crate::field::Field;
 use crate::polynomial::{Monomial, Polynomial};
-use std::sync::OnceLock;
 
 /// h: the function of x-degree below q² and y-degree below q with the row's symbols as values.
 pub fn interpolate(field: Field, row: &[u8]) -> Polynomial {
-    let basis = lagrange_basis(field);
-    assert_eq!(row.len(), basis.len(), "a row has n symbols");
-    basis
-        .iter()
-        .zip(row)
-        .fold(Polynomial::zero(field), |sum, (one_point, &symbol)| {
-            sum.plus_multiple(symbol, 0, one_point)
-        })
+    let basis = if field.q() == 2 {
+        &BASIS_FOR_2
+    } else {
+        &BASIS_FOR_4
+    };
+    basis.with(|basis| {
+        assert_eq!(row.len(), basis.len(), "a row has n symbols");
+        basis
+            .iter()
+            .zip(row)
+            .fold(Polynomial::zero(field), |sum, (one_point, &symbol)| {
+                sum.plus_multiple(symbol, 0, one_point)
+            })
+    })
 }
 
-/// For each point the function that is 1 there and 0 at all others. Every row needs the same
-/// ones, so they are worked out once for each q.
-fn lagrange_basis(field: Field) -> &'static [Polynomial] {
-    static FOR_2: OnceLock<Vec<Polynomial>> = OnceLock::new();
-    static FOR_4: OnceLock<Vec<Polynomial>> = OnceLock::new();
-    let place = if field.q() == 2 { &FOR_2 } else { &FOR_4 };
-    place.get_or_init(|| {
-        let all = points(field);
-        all.iter()
-            .map(|&point| one_at(field, &all, point))
-            .collect()
-    })
+// Every row needs the same functions, so they are worked out once for each q.
+thread_local! {
+    static BASIS_FOR_2: Vec<Polynomial> = lagrange_basis(2);
+    static BASIS_FOR_4: Vec<Polynomial> = lagrange_basis(4);
+}
+
+/// For each point the function that is 1 there and 0 at all others.
+fn lagrange_basis(q: u64) -> Vec<Polynomial> {
+    let field = Field::of(q).expect("q has a field");
+    let all = points(field);
+    all.iter()
+        .map(|&point| one_at(field, &all, point))
+        .collect()
 }
 
 /// The product of (x - a') over all other abscissas and of (y - b') over the other points above

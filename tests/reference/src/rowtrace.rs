@@ -36,11 +36,13 @@ fn parse(text: &[u8]) -> Option<Request> {
     }
     let pieces: Vec<&[u8]> = text.split(|&byte| byte == b'\n').collect();
     // A newline ends each of the two lines, so a third and empty piece follows them.
-    let [code_line, row_line, []] = pieces[..] else {
-        return None;
+    let (code_line, row_line) = match pieces[..] {
+        [code_line, row_line, []] => (code_line, row_line),
+        _ => return None,
     };
-    let [q, u] = numbers(code_line)?[..] else {
-        return None;
+    let (q, u) = match numbers(code_line)?[..] {
+        [q, u] => (q, u),
+        _ => return None,
     };
     let row = numbers(row_line)?
         .into_iter()

@@ -1,0 +1,136 @@
+//! The groups of cases, and how many of each are tried.
+
+use crate::blocks::{damaged_block, forbidden_count, other_header, random_bytes, refused_block};
+use crate::case::Case;
+use crate::refusals::row_call;
+use crate::rows::{
+    around, codes_and_damages, codes_and_steps, damaged, decode_case, encode_case, garbage,
+    row_of_q_2, stop_case,
+};
+use reference::curve::Code;
+use reference::samples::{all_codes, Random};
+
+/// Cases of one kind. A case is made from its index and a generator seeded for it alone.
+pub struct Group {
+    pub name: &'static str,
+    pub count: usize,
+    pub make: fn(usize, &mut Random) -> Case,
+}
+
+/// The largest blocks come first, so that all threads end together.
+const BLOCK_ROWS: [usize; 24] = [
+    1024, 1024, 1023, 1000, 700, 512, 511, 300, 257, 256, 255, 200, 129, 128, 127, 100, 64, 63, 48,
+    33, 32, 31, 20, 16,
+];
+
+/// Every group, the quick ones first. The reference takes about 1.5 ms for a row of q = 4, and the
+/// counts are such that all groups end within a minute or two on two processors.
+pub fn all_groups() -> Vec<Group> {
+    vec![
+        Group {
+            name: "decode: every row of q = 2, u = 4",
+            count: 1 << 16,
+            make: |index, random| {
+                let code = Code::named(2, 4).expect("u = 4 is allowed");
+                decode_case(&code, row_of_q_2(index), random)
+            },
+        },
+        Group {
+            name: "decode: rows of q = 2, every u, 0 to reach + 2 places damaged",
+            count: 600 * codes_and_damages(2).len(),
+            make: |index, random| damaged_row(2, index, random),
+        },
+        Group {
+            name: "decode: garbage rows of q = 2, every u",
+            count: 6_000,
+            make: |index, random| garbage_row(2, index, random),
+        },
+        Group {
+            name: "stop: q = 2, every u, every number of steps",
+            count: 120 * codes_and_steps(2).len(),
+            make: |index, random| stopped_row(2, index, random),
+        },
+        Group {
+            name: "encode: q = 2 and q = 4, every u",
+            count: 6_000,
+            make: |index, random| {
+                let code = around(&all_codes(around(&[2, 4, 4], index)), index / 3);
+                encode_case(&code, random.message(&code), random)
+            },
+        },
+        Group {
+            name: "refusals 1 to 7: every call, every set of wrongs",
+            count: 512 * 24,
+            make: row_call,
+        },
+        Group {
+            name: "verify: every other byte in each place of the header",
+            count: 8 * 255,
+            make: other_header,
+        },
+        Group {
+            name: "verify: counts of rows that are not allowed",
+            count: 20,
+            make: forbidden_count,
+        },
+        Group {
+            name: "verify: refusals 9, 10, 11, 6, every set of wrongs",
+            count: 16 * 100,
+            make: refused_block,
+        },
+        Group {
+            name: "verify: random bytes as blocks",
+            count: 4_000,
+            make: |_, random| random_bytes(random),
+        },
+        Group {
+            name: "verify: blocks of 1 to 15 rows with damage",
+            count: 300,
+            make: |index, random| damaged_block(1 + index % 15, random),
+        },
+        Group {
+            name: "decode: rows of q = 4, every u, 0 to reach + 2 places damaged",
+            count: 10 * codes_and_damages(4).len(),
+            make: |index, random| damaged_row(4, index, random),
+        },
+        Group {
+            name: "decode: garbage rows of q = 4, every u",
+            count: 100 * all_codes(4).len(),
+            make: |index, random| garbage_row(4, index, random),
+        },
+        Group {
+            name: "stop: q = 4, every u, every number of steps",
+            count: 2 * codes_and_steps(4).len(),
+            make: |index, random| stopped_row(4, index, random),
+        },
+        Group {
+            name: "verify: blocks of up to 1,024 rows with damage",
+            count: BLOCK_ROWS.len(),
+            make: |index, random| damaged_block(BLOCK_ROWS[index], random),
+        },
+    ]
+}
+
+fn damaged_row(q: u64, index: usize, random: &mut Random) -> Case {
+    let (code, places) = around(&codes_and_damages(q), index);
+    let row = damaged(&code, places, random);
+    decode_case(&code, row, random)
+}
+
+fn garbage_row(q: u64, index: usize, random: &mut Random) -> Case {
+    let code = around(&all_codes(q), index);
+    let row = garbage(&code, random);
+    decode_case(&code, row, random)
+}
+
+/// Half of the rows are a message's with damage, half are garbage.
+fn stopped_row(q: u64, index: usize, random: &mut Random) -> Case {
+    let (code, steps) = around(&codes_and_steps(q), index);
+    let row = if random.below(2) == 0 {
+        garbage(&code, random)
+    } else {
+        let places = random.below(code.reach() + 3);
+        damaged(&code, places, random)
+    };
+    stop_case(&code, steps, row, random)
+}
