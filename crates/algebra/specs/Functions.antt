@@ -8,9 +8,9 @@ use Rattle.algebra.specs.Symbols.{Symbols, power, sum}
 use Rattle.algebra.specs.Weights.{xPower, yPower}
 
 module _ (𝓢 : Symbols) (q : ℕ) where
-  infixl 65 _⊕_ _⊖_
+  infixl 65 _⊖_
   infixl 70 _⊗_
-  open Symbols 𝓢 using (K, 𝟘, 𝟙, _⊕_, _⊖_, _⊗_)
+  open Symbols 𝓢 using (K, 𝟘, _⊖_, _⊗_)
 
   -- f j i is the coefficient of x^i y^j
   abbrev pub Fn : Type 0

@@ -40,9 +40,9 @@ abbrev pub f : ℕ → ℕ → ℕ
 f q i = q + i
 
 module _ (𝓢 : Symbols) (q : ℕ) where
-  infixl 65 _⊕_ _⊖_
+  infixl 65 _⊖_
   infixl 70 _⊗_
-  open Symbols 𝓢 using (K, 𝟘, 𝟙, _⊕_, _⊖_, minus, _⊗_)
+  open Symbols 𝓢 using (K, 𝟘, _⊖_, minus, _⊗_)
 
   -- a polynomial's q upper rows by power of y, then its q lower ones; in each the coefficients by power of x
   abbrev pub Polynomial : Type 0
