@@ -4,7 +4,7 @@ use mathlib.Core.Path.{_≡_, refl, ap, sym, _∙_}
 use mathlib.Core.Logic.{_⊎_, inl, inr, ⊎-elim}
 use mathlib.Core.List.{List, _++_}
 use Prim.Native.Nat.{ℕ, zero, suc, _+_, _-_, _≤_, _<_}
-use native.Mathlib.Nat.{not-suc-le-zero, zero-add}
+use native.Mathlib.Nat.{not-suc-le-zero, zero-add, add-zero, add-suc, add-assoc}
 use native.Mathlib.Numerals.{add-one}
 use native.Mathlib.Omega.{arith}
 use lib.ListN.{length, getD, set, drop, length-set, length-append, length-drop, List·getD-append}
@@ -62,6 +62,25 @@ module _ {ℓ} {A : Type ℓ} where
   set-put l at (suc n) f k v h =
       set-comm (put l at n f) (at + n) k (f n) v (λ e. ⊎-elim (λ p. omega arith) (λ p. omega arith) h)
       ∙ (rw (set-put l at n f k v (⊎-elim (λ p. inl p) (λ p. inr (omega arith)) h)))
+
+  -- two runs that are apart may come in either order
+  pub put-put : (l : List A) (at n : ℕ) (f : ℕ → A) (at′ n′ : ℕ) (f′ : ℕ → A) → (at + n ≤ at′) ⊎ (at′ + n′ ≤ at)
+      → put (put l at n f) at′ n′ f′ ≡ put (put l at′ n′ f′) at n f
+  unfolding put
+  put-put l at n f at′ zero f′ h = refl
+  put-put l at n f at′ (suc n′) f′ h =
+      rw (put-put l at n f at′ n′ f′ (⊎-elim (λ p. inl p) (λ p. inr (omega arith)) h))
+      (set-put (put l at′ n′ f′) at n f (at′ + n′) (f′ n′) (⊎-elim (λ p. inr (omega arith)) (λ p. inl (omega arith)) h))
+
+  -- a run in two parts, the first part first
+  pub put-parts : (l : List A) (at m n : ℕ) (f : ℕ → A) → put (put l at m f) (at + m) n (λ i. f (m + i)) ≡ put l at (m + n) f
+  unfolding put
+  put-parts l at m zero f = rw add-zero
+  put-parts l at m (suc n) f = rw (put-parts l at m n f, add-suc m n, ← add-assoc at m n)
+
+  -- a run in two parts, the second part first
+  pub put-parts-back : (l : List A) (at m n : ℕ) (f : ℕ → A) → put (put l (at + m) n (λ i. f (m + i))) at m f ≡ put l at (m + n) f
+  put-parts-back l at m n f = put-put l (at + m) n (λ i. f (m + i)) at m f (inr (omega arith)) ∙ put-parts l at m n f
 
   -- runs of functions that agree below n
   pub put-same : (l : List A) (at n : ℕ) (f g : ℕ → A) → ((i : ℕ) → i < n → f i ≡ g i) → put l at n f ≡ put l at n g

@@ -1,6 +1,8 @@
 // The published steps on a lent area.
 use refusals::Refusal;
 
+mod rows;
+
 // What the stop service answers.
 pub enum Stopped {
     Done,
