@@ -8,7 +8,7 @@ use native.Mathlib.Nat.{not-suc-le-zero, zero-add, add-zero, add-suc, add-assoc}
 use native.Mathlib.Numerals.{add-one}
 use native.Mathlib.Omega.{arith}
 use lib.ListN.{length, getD, set, drop, length-set, length-append, length-drop, List·getD-append}
-use lib.Seq.{getD-set-same, getD-set-other, set-comm, set-append-left, ext-getD, getD-append-add, getD-drop}
+use lib.Seq.{getD-set-same, getD-set-other, set-comm, set-append-left, set-getD, ext-getD, getD-append-add, getD-drop}
 use Rattle.lists.specs.Tables.{tab, put}
 use Rattle.lists.proofs.Numbers.{lt-or-ge}
 use Rattle.lists.proofs.Tables.{length-tab, getD-tab}
@@ -62,6 +62,12 @@ module _ {ℓ} {A : Type ℓ} where
   set-put l at (suc n) f k v h =
       set-comm (put l at n f) (at + n) k (f n) v (λ e. ⊎-elim (λ p. omega arith) (λ p. omega arith) h)
       ∙ (rw (set-put l at n f k v (⊎-elim (λ p. inl p) (λ p. inr (omega arith)) h)))
+
+  -- a run of what stands there changes nothing
+  pub put-kept : (l : List A) (at n : ℕ) (f : ℕ → A) (d : A) → ((i : ℕ) → i < n → f i ≡ getD l (at + i) d) → put l at n f ≡ l
+  unfolding put
+  put-kept l at zero f d h = refl
+  put-kept l at (suc n) f d h = rw (put-kept l at n f d (λ i b. h i (omega arith)), h n (omega arith)) (set-getD l (at + n) d)
 
   -- two runs that are apart may come in either order
   pub put-put : (l : List A) (at n : ℕ) (f : ℕ → A) (at′ n′ : ℕ) (f′ : ℕ → A) → (at + n ≤ at′) ⊎ (at′ + n′ ≤ at)

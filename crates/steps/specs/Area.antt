@@ -94,6 +94,18 @@ module _ (q : ℕ) where
   unfoldable pub rowAdded : ℕ → ℕ → ℕ → ℕ → ℕ → K → Cells → Cells
   rowAdded p r p′ r′ c ρ S = withRows p r 1 (λ n. plusMultiple (S p r) ρ c (S p′ r′)) S
 
+  -- x^c times a row plus ρ times a row
+  unfoldable pub raisedPlus : (ℕ → K) → K → ℕ → (ℕ → K) → ℕ → K
+  raisedPlus a ρ c b i = shift (symbols q) q c a i ⊕ ρ ⊗ b i
+
+  -- row r of polynomial f becomes x^c times itself plus ρ times that of g, and row r of g becomes that of f
+  unfoldable pub rowExchanged : ℕ → ℕ → ℕ → ℕ → K → Cells → Cells
+  rowExchanged f g r c ρ S = withRows g r 1 (λ n. S f r) (withRows f r 1 (λ n. raisedPlus (S f r) ρ c (S g r)) S)
+
   -- n rows of polynomial f become themselves plus ρ·x^c times those of polynomial g
   unfoldable pub polynomialAdded : ℕ → ℕ → ℕ → K → ℕ → Cells → Cells
   polynomialAdded f g c ρ n S = withRows f 0 n (λ r. plusMultiple (S f r) ρ c (S g r)) S
+
+  -- n rows of polynomial f become x^c times themselves plus ρ times those of g, and those of g become those of f
+  unfoldable pub polynomialsExchanged : ℕ → ℕ → ℕ → K → ℕ → Cells → Cells
+  polynomialsExchanged f g c ρ n S = withRows g 0 n (S f) (withRows f 0 n (λ r. raisedPlus (S f r) ρ c (S g r)) S)

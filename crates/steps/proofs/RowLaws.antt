@@ -1,0 +1,184 @@
+-- What the loops over the bytes of rows do to the cells that the bytes show.
+-- Assumes nothing.
+use mathlib.Core.Path.{_≡_, refl, sym, ap, _∙_}
+use mathlib.Core.List.{List, _++_}
+use mathlib.Core.Logic.{_⊎_, inl, inr, ⊎-elim}
+use Prim.Native.Nat.{ℕ, _+_, _-_, _*_, _%_, _<_, _≤_}
+use native.Mathlib.Nat.{add-assoc}
+use native.Mathlib.Omega.{arith}
+use lib.ListN.{getD}
+use Rattle.algebra.specs.Symbols.{Symbols}
+use Rattle.algebra.specs.Functions.{shift}
+use Rattle.algebra.proofs.Ring.{add-zero, zero-add, mul-zero}
+use Rattle.algebra.proofs.Polynomials.{shift-add, shift-below}
+use Rattle.lists.specs.Tables.{put}
+use Rattle.lists.proofs.Put.{put-same, put-out, put-put, put-kept, put-parts, put-parts-back}
+use Rattle.symbols.specs.Rule.{Known, symbols, Sym, number}
+use Rattle.symbols.proofs.FieldLaws.{laws-of}
+use Rattle.symbols.proofs.Bytes.{number-of-sum}
+use Rattle.published.specs.Start.{width}
+use Rattle.steps.specs.Area.{sumByte, summed, raisedByte, exchangedAbove, exchangedBelow, rowPlace, Cells, shown, Turns, Multiplies, withRows, plusMultiple, raisedPlus, rowAdded, rowExchanged}
+use Rattle.steps.proofs.Cells.{shown-read, shown-put, shown-same, rows-are, rows-differ}
+
+module _ (q : ℕ) (known : Known q) where
+  infixl 65 _⊕_
+  infixl 70 _⊗_
+  open Symbols (symbols q) using (K, 𝟘, _⊕_, _⊗_)
+
+  plus-is : (a : ℕ → K) (ρ : K) (c : ℕ) (b : ℕ → K) (i : ℕ) → plusMultiple q a ρ c b i ≡ a i ⊕ ρ ⊗ shift (symbols q) q c b i
+  unfolding plusMultiple
+  plus-is a ρ c b i = refl
+
+  -- a row plus a multiple, above and below the shift
+  plus-above : (a : ℕ → K) (ρ : K) (c : ℕ) (b : ℕ → K) (i : ℕ) → plusMultiple q a ρ c b (c + i) ≡ a (c + i) ⊕ ρ ⊗ b i
+  plus-above a ρ c b i = plus-is a ρ c b (c + i) ∙ ap (λ (y : K). a (c + i) ⊕ ρ ⊗ y) (shift-add (symbols q) q c b i)
+
+  plus-below : (a : ℕ → K) (ρ : K) (c : ℕ) (b : ℕ → K) (i : ℕ) → i < c → plusMultiple q a ρ c b i ≡ a i
+  plus-below a ρ c b i h =
+      plus-is a ρ c b i
+      ∙ ap (λ (y : K). a i ⊕ ρ ⊗ y) (shift-below (symbols q) q c b i h)
+      ∙ simp (mul-zero (laws-of q known), add-zero (laws-of q known))
+
+  raised-is : (a : ℕ → K) (ρ : K) (c : ℕ) (b : ℕ → K) (i : ℕ) → raisedPlus q a ρ c b i ≡ shift (symbols q) q c a i ⊕ ρ ⊗ b i
+  unfolding raisedPlus
+  raised-is a ρ c b i = refl
+
+  -- the raised row plus a multiple, above and below the shift
+  raised-above : (a : ℕ → K) (ρ : K) (c : ℕ) (b : ℕ → K) (i : ℕ) → raisedPlus q a ρ c b (c + i) ≡ a i ⊕ ρ ⊗ b (c + i)
+  raised-above a ρ c b i = raised-is a ρ c b (c + i) ∙ ap (λ (y : K). y ⊕ ρ ⊗ b (c + i)) (shift-add (symbols q) q c a i)
+
+  raised-below : (a : ℕ → K) (ρ : K) (c : ℕ) (b : ℕ → K) (i : ℕ) → i < c → raisedPlus q a ρ c b i ≡ ρ ⊗ b i
+  raised-below a ρ c b i h =
+      raised-is a ρ c b i
+      ∙ ap (λ (y : K). y ⊕ ρ ⊗ b i) (shift-below (symbols q) q c a i h)
+      ∙ zero-add (laws-of q known) (ρ ⊗ b i)
+
+  module _ (S : Cells q) (l rest : List ℕ) (e : l ≡ shown q S ++ rest) (p r p′ r′ : ℕ)
+      (hp : p < 2 * q) (hr : r < 2 * q) (hp′ : p′ < 2 * q) (hr′ : r′ < 2 * q) (products : List ℕ) (ρ : K) (m : Multiplies q products ρ) where
+    -- a byte read, and its product
+    byte : (i : ℕ) → i < width q → getD l (rowPlace q p r + i) 0 ≡ number q (S p r i)
+    byte i h = shown-read q S l rest e p r i hp hr h
+
+    product : (i : ℕ) → i < width q → getD products (getD l (rowPlace q p′ r′ + i) 0 % 16) 0 ≡ number q (ρ ⊗ S p′ r′ i)
+    product i h = rw (shown-read q S l rest e p′ r′ i hp′ hr′ h) (m .at (S p′ r′ i))
+
+    -- the bytes from the shift on are added
+    pub add-law : (c : ℕ) → c ≤ width q
+        → summed l (rowPlace q p r + c) (rowPlace q p′ r′) (width q - c) products ≡ shown q (rowAdded q p r p′ r′ c ρ S) ++ rest
+    unfolding summed rowAdded
+    add-law c h =
+        put-same l (to + c) n (sumByte l (to + c) from products) (λ i. v (c + i)) stored
+        ∙ ap (λ (w : List ℕ). put w (to + c) n (λ i. v (c + i))) (sym kept)
+        ∙ put-parts l to c n v
+        ∙ ap (λ (k : ℕ). put l to k v) (omega arith)
+        ∙ shown-put q S l rest e p r v F hp hr (λ i hi. refl)
+      where
+        to : ℕ
+        to = rowPlace q p r
+        from : ℕ
+        from = rowPlace q p′ r′
+        n : ℕ
+        n = width q - c
+        F : ℕ → K
+        F = plusMultiple q (S p r) ρ c (S p′ r′)
+        v : ℕ → ℕ
+        v i = number q (F i)
+        kept : put l to c v ≡ l
+        kept = put-kept l to c v 0 (λ i hi. ap (number q) (plus-below (S p r) ρ c (S p′ r′) i hi) ∙ sym (byte i (omega arith)))
+        stored : (i : ℕ) → i < n → sumByte l (to + c) from products i ≡ v (c + i)
+        stored i hi =
+            rw (add-assoc to c i, byte (c + i) (omega arith), product i (omega arith), plus-above (S p r) ρ c (S p′ r′) i)
+            (number-of-sum q known (S p r (c + i)) (ρ ⊗ S p′ r′ i))
+
+    -- past the width nothing is added
+    pub add-past : (c : ℕ) → width q ≤ c → l ≡ shown q (rowAdded q p r p′ r′ c ρ S) ++ rest
+    unfolding rowAdded
+    add-past c h =
+        sym (put-kept l (rowPlace q p r) (width q) (λ i. number q (plusMultiple q (S p r) ρ c (S p′ r′) i)) 0
+            (λ i hi. ap (number q) (plus-below (S p r) ρ c (S p′ r′) i (omega arith)) ∙ sym (byte i hi)))
+        ∙ shown-put q S l rest e p r (λ i. number q (plusMultiple q (S p r) ρ c (S p′ r′) i)) (plusMultiple q (S p r) ρ c (S p′ r′)) hp hr (λ i hi. refl)
+
+    module _ (apart : (rowPlace q p r + width q ≤ rowPlace q p′ r′) ⊎ (rowPlace q p′ r′ + width q ≤ rowPlace q p r)) where
+      -- both rows' bytes replaced are the two rows exchanged
+      both-rows : (c : ℕ)
+          → put (put l (rowPlace q p r) (width q) (λ i. number q (raisedPlus q (S p r) ρ c (S p′ r′) i))) (rowPlace q p′ r′) (width q) (λ i. number q (S p r i))
+          ≡ shown q (withRows q p′ r′ 1 (λ n. S p r) (withRows q p r 1 (λ n. raisedPlus q (S p r) ρ c (S p′ r′)) S)) ++ rest
+      both-rows c =
+          let F = raisedPlus q (S p r) ρ c (S p′ r′) in
+          shown-put q (withRows q p r 1 (λ n. F) S) (put l (rowPlace q p r) (width q) (λ i. number q (F i))) rest
+          (shown-put q S l rest e p r (λ i. number q (F i)) F hp hr (λ i hi. refl))
+          p′ r′ (λ i. number q (S p r i)) (S p r) hp′ hr′ (λ i hi. refl)
+
+      -- a shift past the width: all bytes are exchanged as where nothing stands below
+      pub exchange-past : (c : ℕ) → width q ≤ c
+          → exchangedBelow l (rowPlace q p r) (rowPlace q p′ r′) products (width q)
+          ≡ shown q (withRows q p′ r′ 1 (λ n. S p r) (withRows q p r 1 (λ n. raisedPlus q (S p r) ρ c (S p′ r′)) S)) ++ rest
+      unfolding exchangedBelow
+      exchange-past c h =
+          put-same (put l f W (λ i. getD products (getD l (g + i) 0 % 16) 0)) g W (λ i. getD l (f + i) 0) (λ i. number q (S p r i)) byte
+          ∙ ap (λ (w : List ℕ). put w g W (λ i. number q (S p r i)))
+              (put-same l f W (λ i. getD products (getD l (g + i) 0 % 16) 0) v
+              (λ i hi. product i hi ∙ ap (number q) (sym (raised-below (S p r) ρ c (S p′ r′) i (omega arith)))))
+          ∙ both-rows c
+        where
+          f : ℕ
+          f = rowPlace q p r
+          g : ℕ
+          g = rowPlace q p′ r′
+          W : ℕ
+          W = width q
+          v : ℕ → ℕ
+          v i = number q (raisedPlus q (S p r) ρ c (S p′ r′) i)
+
+      -- the bytes from the shift on, and then those below it
+      pub exchange-law : (c : ℕ) → c ≤ width q
+          → exchangedBelow (exchangedAbove l (rowPlace q p r) (rowPlace q p′ r′) c products c (width q - c)) (rowPlace q p r) (rowPlace q p′ r′) products c
+          ≡ shown q (withRows q p′ r′ 1 (λ n. S p r) (withRows q p r 1 (λ n. raisedPlus q (S p r) ρ c (S p′ r′)) S)) ++ rest
+      unfolding exchangedAbove exchangedBelow
+      exchange-law c h =
+          put-same (put upper f c (λ i. getD products (getD upper (g + i) 0 % 16) 0)) g c (λ i. getD upper (f + i) 0) w
+              (λ i hi. at-f i hi ∙ byte i (omega arith))
+          ∙ ap (λ (z : List ℕ). put z g c w)
+              (put-same upper f c (λ i. getD products (getD upper (g + i) 0 % 16) 0) v below
+              ∙ ap (λ (z : List ℕ). put z f c v)
+                  (ap (λ (z : List ℕ). put z (g + c) n (λ k. getD l (f + (c + k)) 0)) (put-same l (f + c) n (λ k. raisedByte l f g c products (c + k)) (λ k. v (c + k)) above)
+                  ∙ put-same (put l (f + c) n (λ k. v (c + k))) (g + c) n (λ k. getD l (f + (c + k)) 0) (λ k. w (c + k)) (λ k hk. byte (c + k) (omega arith)))
+              ∙ put-put (put l (f + c) n (λ k. v (c + k))) (g + c) n (λ k. w (c + k)) f c v (⊎-elim (λ a. inr (omega arith)) (λ a. inl (omega arith)) apart)
+              ∙ ap (λ (z : List ℕ). put z (g + c) n (λ k. w (c + k))) (put-parts-back l f c n v))
+          ∙ put-parts-back (put l f (c + n) v) g c n w
+          ∙ (rw wide (both-rows c))
+        where
+          f : ℕ
+          f = rowPlace q p r
+          g : ℕ
+          g = rowPlace q p′ r′
+          n : ℕ
+          n = width q - c
+          v : ℕ → ℕ
+          v i = number q (raisedPlus q (S p r) ρ c (S p′ r′) i)
+          w : ℕ → ℕ
+          w i = number q (S p r i)
+          wide : c + n ≡ width q
+          wide = omega arith
+          lower : List ℕ
+          lower = put l (f + c) n (λ k. raisedByte l f g c products (c + k))
+          upper : List ℕ
+          upper = put lower (g + c) n (λ k. getD l (f + (c + k)) 0)
+          at-f : (i : ℕ) → i < c → getD upper (f + i) 0 ≡ getD l (f + i) 0
+          at-f i hi =
+              put-out lower (g + c) n (λ k. getD l (f + (c + k)) 0) (f + i) 0 (⊎-elim (λ a. inl (omega arith)) (λ a. inr (omega arith)) apart)
+              ∙ put-out l (f + c) n (λ k. raisedByte l f g c products (c + k)) (f + i) 0 (inl (omega arith))
+          at-g : (i : ℕ) → i < c → getD upper (g + i) 0 ≡ getD l (g + i) 0
+          at-g i hi =
+              put-out lower (g + c) n (λ k. getD l (f + (c + k)) 0) (g + i) 0 (inl (omega arith))
+              ∙ put-out l (f + c) n (λ k. raisedByte l f g c products (c + k)) (g + i) 0 (⊎-elim (λ a. inr (omega arith)) (λ a. inl (omega arith)) apart)
+          below : (i : ℕ) → i < c → getD products (getD upper (g + i) 0 % 16) 0 ≡ v i
+          below i hi =
+              ap (λ (a : ℕ). getD products (a % 16) 0) (at-g i hi)
+              ∙ product i (omega arith)
+              ∙ ap (number q) (sym (raised-below (S p r) ρ c (S p′ r′) i hi))
+          above : (k : ℕ) → k < n → raisedByte l f g c products (c + k) ≡ v (c + k)
+          above k hk =
+              let z : c + k - c ≡ k = omega arith in
+              rw (z, byte k (omega arith), product (c + k) (omega arith), raised-above (S p r) ρ c (S p′ r′) k)
+              (number-of-sum q known (S p r k) (ρ ⊗ S p′ r′ (c + k)))
