@@ -19,7 +19,7 @@ use Rattle.published.specs.Picture.{areaSize, layout, cellNumber, picture}
 use Rattle.steps.specs.Area.{Area, rowPlace, Cells, cellsOf, numbers, shown, Turns, withRows}
 
 -- the area's size as rows of rows
-size-is : (q : ℕ) → areaSize q ≡ 2 * q * (2 * q * width q)
+pub size-is : (q : ℕ) → areaSize q ≡ 2 * q * (2 * q * width q)
 unfolding areaSize
 size-is q =
     let square : 2 * q * (2 * q) ≡ 4 * (q * q) = mul-assoc 2 q (2 * q) ∙ (rw (mul-comm q (2 * q), mul-assoc 2 q q) (omega arith)) in

@@ -1,3 +1,4 @@
 mod Bytes
 mod Cells
+mod Sizes
 mod RowLaws

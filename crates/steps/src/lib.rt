@@ -1,6 +1,7 @@
 // The published steps on a lent area.
 use refusals::Refusal;
 
+mod area;
 mod rows;
 
 // What the stop service answers.

@@ -1,0 +1,80 @@
+-- Only the bytes from the shift on change; they are those of the row with the multiple added.
+-- Assumes nothing.
+use mathlib.Core.Path.{_∙_}
+use mathlib.Core.Logic.{⊎-elim, inl, inr}
+use native.Mathlib.Omega.{arith}
+use Rattle.steps.proofs.Cells.{row-fits, rows-differ}
+use Rattle.steps.proofs.Sizes.{row-small}
+use Rattle.steps.proofs.RowLaws.{add-law, add-past}
+use borrow.Author.Needs.{needs}
+use Rattle.steps.proofs.area.add_row.Statement.{statement}
+use Rattle.steps.proofs.area.add_row.Tie as tie
+use Rattle.steps.proofs.area.add_row.Reads as reads
+use Rattle.steps.proofs.area.add_row.Lts as lts
+use Rattle.steps.proofs.area.row_place.Reads as row-place-reads
+use Rattle.steps.proofs.area.width_of.Reads as width-of-reads
+use Rattle.steps.proofs.rows.add_bytes.Reads as add-bytes-reads
+
+width-of-requires : tie.Need-width-of-requires
+width-of-requires c κs = search needs
+
+returns : tie.Need-returns
+returns c =
+    λ ρ m. record {
+      shows = λ S rest e.
+        let s = c .before .before .before in
+        let b = s .pre .1 in
+        add-past _ (s .pre .0 .known) S _ rest e _ _ _ _ (b .0) (b .1) (b .2) (b .3) _ ρ m _ (rw (c .before .width-of .ensures) at (c .if1 .taken));
+    }
+
+row-place-requires : tie.Need-row-place-requires
+row-place-requires c κs = search needs
+
+row-place-requires-2 : tie.Need-row-place-requires-2
+row-place-requires-2 c κs = search needs
+
+add-add-bytes : tie.Need-add-add-bytes
+add-add-bytes c =
+    let s = c .before .before .before .before .before .before in
+    rw (c .before .before .row-place .ensures)
+    (omega (arith, row-small _ _ _ (s .pre .0 .known) (s .pre .1 .0) (s .pre .1 .1), c .before .before .before .before .width-of .ensures, c .before .before .before .if1 .left))
+
+sub-add-bytes : tie.Need-sub-add-bytes
+sub-add-bytes c = search needs
+
+add-bytes-requires : tie.Need-add-bytes-requires
+add-bytes-requires c κs =
+    let s = c .before .before .before .before .before .before in
+    let b = s .pre .1 in
+    let to = row-fits _ _ (s .pre .0) (b .0) (b .1) in
+    let from = row-fits _ _ (s .pre .0) (b .2) (b .3) in
+    let narrow = c .before .before .before .if1 .left in
+    rw (c .before .before .row-place .ensures, c .before .row-place2 .ensures, c .before .before .before .before .width-of .ensures)
+    (omega arith, ⊎-elim (λ a. inl (omega arith)) (λ a. inr (omega arith)) (rows-differ _ _ _ _ _ (b .1) (b .3) (b .4)))
+
+same-length : tie.Need-same-length
+same-length c = search needs
+
+returns-2 : tie.Need-returns-2
+returns-2 c =
+    λ ρ m. record {
+      shows = λ S rest e.
+        let s = c .before .before .before .before .before .before .before .before .before in
+        let b = s .pre .1 in
+        (rw (c .before .before .before .before .before .row-place .ensures, c .before .before .before .before .row-place2 .ensures, c .before .before .before .before .before .before .before .width-of .ensures) at (c .before .before .add-bytes .ensures))
+        ∙ add-law _ (s .pre .0 .known) S _ rest e _ _ _ _ (b .0) (b .1) (b .2) (b .3) _ ρ m _ (omega (arith, c .before .before .before .before .before .before .before .width-of .ensures, c .before .before .before .before .before .before .if1 .left));
+    }
+
+pub add-row-spec : {M : Type 1} → statement M
+add-row-spec =
+    tie.close
+    (tie.spec
+    width-of-requires
+    returns
+    row-place-requires
+    row-place-requires-2
+    add-add-bytes
+    sub-add-bytes
+    add-bytes-requires
+    same-length
+    returns-2)

@@ -1,0 +1,29 @@
+-- The numbers of a known q are small enough.
+-- Assumes nothing.
+use native.Mathlib.Omega.{arith}
+use Rattle.published.specs.Start.{width}
+use Rattle.steps.proofs.Sizes.{sizes}
+use borrow.Author.Needs.{needs}
+use Rattle.steps.proofs.area.width_of.Statement.{statement}
+use Rattle.steps.proofs.area.width_of.Tie as tie
+use Rattle.steps.proofs.area.width_of.Reads as reads
+use Rattle.steps.proofs.area.width_of.Lts as lts
+
+mul-result : tie.Need-mul-result
+mul-result c = omega (arith, sizes _ (c .pre))
+
+mul-result-2 : tie.Need-mul-result-2
+mul-result-2 c = omega (arith, sizes _ (c .pre))
+
+add-result : tie.Need-add-result
+add-result c = omega (arith, sizes _ (c .pre))
+
+sub-result : tie.Need-sub-result
+sub-result c = omega (arith, sizes _ (c .pre))
+
+returns : tie.Need-returns
+unfolding width
+returns c = search needs
+
+pub width-of-spec : {M : Type 1} → statement M
+width-of-spec = tie.close (tie.spec mul-result mul-result-2 add-result sub-result returns)
