@@ -1,13 +1,11 @@
 -- One turn of each loop over the bytes of rows: what it reads, no turn before has changed.
 -- Assumes nothing.
-use mathlib.Core.Path.{_≡_, refl, sym, ap, _∙_}
+use mathlib.Core.Path.{_≡_, refl, ap, _∙_}
 use mathlib.Core.List.{List}
 use mathlib.Core.Logic.{_⊎_, inl, inr, ⊎-elim}
 use Prim.Native.Nat.{ℕ, _+_, _-_, _%_, _<_, _≤_}
-use native.Mathlib.Nat.{add-zero, zero-add}
-use native.Mathlib.Numerals.{add-one}
+use native.Mathlib.Nat.{add-zero}
 use native.Mathlib.Omega.{arith}
-use lib.Bits.{bitXor}
 use lib.ListN.{getD, set}
 use Rattle.lists.specs.Tables.{put}
 use Rattle.lists.proofs.Put.{put-none, put-more, put-out, put-same, put-parts-back, set-put}
@@ -27,7 +25,7 @@ sum-more l w to from count products i apart more e =
     let f = sumByte l to from products in
     let here : getD (put l to i f) (to + i) 0 ≡ getD l (to + i) 0 = put-out l to i f (to + i) 0 (inr (omega arith)) in
     let there : getD (put l to i f) (from + i) 0 ≡ getD l (from + i) 0 =
-        put-out l to i f (from + i) 0 (⊎-elim (λ h. inr (omega arith)) (λ h. inl (omega arith)) apart) in
+    put-out l to i f (from + i) 0 (⊎-elim (λ h. inr (omega arith)) (λ h. inl (omega arith)) apart) in
     rw (e, here, there) (put-more l to i f)
 
 -- a run with one place more in front
@@ -62,14 +60,14 @@ above-more l w f g shift width products i apart more e =
     let inner = put l (f + (i + 1)) n (λ k. F (i + 1 + k)) in
     let length-is : width - i ≡ n + 1 = omega arith in
     let at-f : (k : ℕ) → k ≤ i → getD (put inner (g + (i + 1)) n (λ k. G (i + 1 + k))) (f + k) 0 ≡ getD l (f + k) 0 = λ k h.
-        put-out inner (g + (i + 1)) n (λ k. G (i + 1 + k)) (f + k) 0 (⊎-elim (λ p. inl (omega arith)) (λ p. inr (omega arith)) apart)
-        ∙ put-out l (f + (i + 1)) n (λ k. F (i + 1 + k)) (f + k) 0 (inl (omega arith)) in
+    put-out inner (g + (i + 1)) n (λ k. G (i + 1 + k)) (f + k) 0 (⊎-elim (λ p. inl (omega arith)) (λ p. inr (omega arith)) apart)
+    ∙ put-out l (f + (i + 1)) n (λ k. F (i + 1 + k)) (f + k) 0 (inl (omega arith)) in
     let at-g : getD (put inner (g + (i + 1)) n (λ k. G (i + 1 + k))) (g + i) 0 ≡ getD l (g + i) 0 =
-        put-out inner (g + (i + 1)) n (λ k. G (i + 1 + k)) (g + i) 0 (inl (omega arith))
-        ∙ put-out l (f + (i + 1)) n (λ k. F (i + 1 + k)) (g + i) 0 (⊎-elim (λ p. inr (omega arith)) (λ p. inl (omega arith)) apart) in
+    put-out inner (g + (i + 1)) n (λ k. G (i + 1 + k)) (g + i) 0 (inl (omega arith))
+    ∙ put-out l (f + (i + 1)) n (λ k. F (i + 1 + k)) (g + i) 0 (⊎-elim (λ p. inr (omega arith)) (λ p. inl (omega arith)) apart) in
     rw (e, at-f i (omega arith), at-f (i - shift) (omega arith), at-g, length-is)
     (ap (λ (w : List ℕ). set w (g + i) (G i))
-        (set-put inner (g + (i + 1)) n (λ k. G (i + 1 + k)) (f + i) (F i) (⊎-elim (λ p. inl (omega arith)) (λ p. inr (omega arith)) apart))
+    (set-put inner (g + (i + 1)) n (λ k. G (i + 1 + k)) (f + i) (F i) (⊎-elim (λ p. inl (omega arith)) (λ p. inr (omega arith)) apart))
     ∙ put-first (set inner (f + i) (F i)) g i n G
     ∙ ap (λ (w : List ℕ). put w (g + i) (n + 1) (λ k. G (i + k))) (put-first l f i n F))
 
@@ -87,11 +85,11 @@ below-more l w f g count products i apart more e =
     let F : ℕ → ℕ = λ k. getD products (getD l (g + k) 0 % 16) 0 in
     let G : ℕ → ℕ = λ k. getD l (f + k) 0 in
     let at-f : getD (put (put l f i F) g i G) (f + i) 0 ≡ getD l (f + i) 0 =
-        put-out (put l f i F) g i G (f + i) 0 (⊎-elim (λ p. inl (omega arith)) (λ p. inr (omega arith)) apart)
-        ∙ put-out l f i F (f + i) 0 (inr (omega arith)) in
+    put-out (put l f i F) g i G (f + i) 0 (⊎-elim (λ p. inl (omega arith)) (λ p. inr (omega arith)) apart)
+    ∙ put-out l f i F (f + i) 0 (inr (omega arith)) in
     let at-g : getD (put (put l f i F) g i G) (g + i) 0 ≡ getD l (g + i) 0 =
-        put-out (put l f i F) g i G (g + i) 0 (inr (omega arith))
-        ∙ put-out l f i F (g + i) 0 (⊎-elim (λ p. inr (omega arith)) (λ p. inl (omega arith)) apart) in
+    put-out (put l f i F) g i G (g + i) 0 (inr (omega arith))
+    ∙ put-out l f i F (g + i) 0 (⊎-elim (λ p. inr (omega arith)) (λ p. inl (omega arith)) apart) in
     rw (e, at-f, at-g)
     (ap (λ (w : List ℕ). set w (g + i) (G i)) (set-put (put l f i F) g i G (f + i) (F i) (⊎-elim (λ p. inl (omega arith)) (λ p. inr (omega arith)) apart))
     ∙ put-more (set (put l f i F) (f + i) (F i)) g i G

@@ -4,7 +4,7 @@ use mathlib.Core.Path.{_≡_, refl, sym, ap, _∙_, subst}
 use mathlib.Core.Bool.{Bool, true, false, _&&_}
 use mathlib.Core.List.{List, _++_}
 use mathlib.Core.Logic.{_⊎_, inl, inr, ⊎-elim}
-use Prim.Native.Nat.{ℕ, _+_, _-_, _*_, _/_, _%_, _<_, _≤_}
+use Prim.Native.Nat.{ℕ, _+_, _-_, _*_, _<_, _≤_}
 use native.Mathlib.Nat.{mul-assoc, mul-comm}
 use native.Mathlib.Omega.{arith}
 use lib.Dec.{eqb, leb, ltb}
@@ -82,9 +82,9 @@ module _ (q : ℕ) where
   inside-no p d n p′ r out =
       ⊎-elim
       (λ (e : p′ ≡ p). ⊎-elim
-          (λ (h : r < d). rw (eq-eqb p′ p e, lt-leb d r h))
-          (λ (h : d + n ≤ r). rw (eq-eqb p′ p e, le-leb d r (omega arith), le-ltb r (d + n) h))
-          (out e))
+      (λ (h : r < d). rw (eq-eqb p′ p e, lt-leb d r h))
+      (λ (h : d + n ≤ r). rw (eq-eqb p′ p e, le-leb d r (omega arith), le-ltb r (d + n) h))
+      (out e))
       (λ ne. rw (ne-eqb p′ p ne))
       (same-or-not p′ p)
 
@@ -94,7 +94,7 @@ module _ (q : ℕ) where
     unfolding withRows
     rows-in j i h =
         subst (λ (t : Bool). _≡_ {A = Sym q} (elim t [ true ↦ F (d + j - d) i | false ↦ S p (d + j) i ]) (F (d + j - d) i))
-            (sym (inside-yes p d n (d + j) (omega arith) (omega arith))) refl
+        (sym (inside-yes p d n (d + j) (omega arith) (omega arith))) refl
         ∙ ap (λ (k : ℕ). F k i) (omega arith)
 
     -- a row that is not replaced
@@ -109,14 +109,15 @@ module _ (q : ℕ) where
     rows-are T new old p′ r i =
         ⊎-elim
         (λ (e : p′ ≡ p). ⊎-elim
-            (λ (h : r < d). outside (λ z. inl h))
-            (λ (h : d ≤ r). ⊎-elim (λ (k : r < d + n). within e h k) (λ (k : d + n ≤ r). outside (λ z. inr k)) (lt-or-ge r (d + n)))
-            (lt-or-ge r d))
+        (λ (h : r < d). outside (λ z. inl h))
+        (λ (h : d ≤ r). ⊎-elim (λ (k : r < d + n). within e h k) (λ (k : d + n ≤ r). outside (λ z. inr k)) (lt-or-ge r (d + n)))
+        (lt-or-ge r d))
         (λ ne. outside (λ z. absurd (ne z)))
         (same-or-not p′ p)
       where
         outside : (p′ ≡ p → (r < d) ⊎ (d + n ≤ r)) → T p′ r i ≡ withRows q p d n F S p′ r i
         outside out = old p′ r i out ∙ sym (rows-out p′ r i out)
+
         within : p′ ≡ p → d ≤ r → r < d + n → T p′ r i ≡ withRows q p d n F S p′ r i
         within e h k =
             let z : r ≡ d + (r - d) = omega arith in
@@ -132,12 +133,13 @@ module _ (q : ℕ) where
       let start : l ≡ grid (2 * q) (2 * q) (width q) (numbers q S) ++ rest = rw (← shown-grid S) e in
       rw start
       (grid-put (2 * q) (2 * q) (width q) 0 (numbers q S) (numbers q T) rest p r v hp hr
-          (λ i hi. new i hi ∙ ap (number q) (sym (here i)))
-          (λ p′ r′ i ne. ap (number q) (rows-out p r 1 (λ n. F) S p′ r′ i (λ z. apart r′ (ne z))))
+      (λ i hi. new i hi ∙ ap (number q) (sym (here i)))
+      (λ p′ r′ i ne. ap (number q) (rows-out p r 1 (λ n. F) S p′ r′ i (λ z. apart r′ (ne z))))
       ∙ (rw (shown-grid T)))
     where
       here : (i : ℕ) → withRows q p r 1 (λ n. F) S p r i ≡ F i
       here i = let z : r ≡ r + 0 = omega arith in ap (λ (k : ℕ). withRows q p r 1 (λ n. F) S p k i) z ∙ rows-in p r 1 (λ n. F) S 0 i (omega arith)
+
       apart : (r′ : ℕ) → (r′ ≡ r → ⊥) → (r′ < r) ⊎ (r + 1 ≤ r′)
       apart r′ ne = ⊎-elim (λ (h : r′ < r). inl h) (λ (h : r ≤ r′). inr (⊎-elim (λ (k : r < r′). omega arith) (λ (k : r′ ≤ r). absurd (ne (omega arith))) (lt-or-ge r r′))) (lt-or-ge r′ r)
 

@@ -13,12 +13,12 @@ use Rattle.algebra.proofs.Ring.{add-zero, zero-add, mul-zero}
 use Rattle.algebra.proofs.Polynomials.{shift-add, shift-below}
 use Rattle.lists.specs.Tables.{put}
 use Rattle.lists.proofs.Put.{put-same, put-out, put-put, put-kept, put-parts, put-parts-back}
-use Rattle.symbols.specs.Rule.{Known, symbols, Sym, number}
+use Rattle.symbols.specs.Rule.{Known, symbols, number}
 use Rattle.symbols.proofs.FieldLaws.{laws-of}
 use Rattle.symbols.proofs.Bytes.{number-of-sum}
 use Rattle.published.specs.Start.{width}
-use Rattle.steps.specs.Area.{sumByte, summed, raisedByte, exchangedAbove, exchangedBelow, rowPlace, Cells, shown, Turns, Multiplies, withRows, plusMultiple, raisedPlus, rowAdded, rowExchanged}
-use Rattle.steps.proofs.Cells.{shown-read, shown-put, shown-same, rows-are, rows-differ}
+use Rattle.steps.specs.Area.{sumByte, summed, raisedByte, exchangedAbove, exchangedBelow, rowPlace, Cells, shown, Multiplies, withRows, plusMultiple, raisedPlus, rowAdded}
+use Rattle.steps.proofs.Cells.{shown-read, shown-put}
 
 module _ (q : ℕ) (known : Known q) where
   infixl 65 _⊕_
@@ -75,16 +75,22 @@ module _ (q : ℕ) (known : Known q) where
       where
         to : ℕ
         to = rowPlace q p r
+
         from : ℕ
         from = rowPlace q p′ r′
+
         n : ℕ
         n = width q - c
+
         F : ℕ → K
         F = plusMultiple q (S p r) ρ c (S p′ r′)
+
         v : ℕ → ℕ
         v i = number q (F i)
+
         kept : put l to c v ≡ l
         kept = put-kept l to c v 0 (λ i hi. ap (number q) (plus-below (S p r) ρ c (S p′ r′) i hi) ∙ sym (byte i (omega arith)))
+
         stored : (i : ℕ) → i < n → sumByte l (to + c) from products i ≡ v (c + i)
         stored i hi =
             rw (add-assoc to c i, byte (c + i) (omega arith), product i (omega arith), plus-above (S p r) ρ c (S p′ r′) i)
@@ -95,7 +101,7 @@ module _ (q : ℕ) (known : Known q) where
     unfolding rowAdded
     add-past c h =
         sym (put-kept l (rowPlace q p r) (width q) (λ i. number q (plusMultiple q (S p r) ρ c (S p′ r′) i)) 0
-            (λ i hi. ap (number q) (plus-below (S p r) ρ c (S p′ r′) i (omega arith)) ∙ sym (byte i hi)))
+        (λ i hi. ap (number q) (plus-below (S p r) ρ c (S p′ r′) i (omega arith)) ∙ sym (byte i hi)))
         ∙ shown-put q S l rest e p r (λ i. number q (plusMultiple q (S p r) ρ c (S p′ r′) i)) (plusMultiple q (S p r) ρ c (S p′ r′)) hp hr (λ i hi. refl)
 
     module _ (apart : (rowPlace q p r + width q ≤ rowPlace q p′ r′) ⊎ (rowPlace q p′ r′ + width q ≤ rowPlace q p r)) where
@@ -117,16 +123,19 @@ module _ (q : ℕ) (known : Known q) where
       exchange-past c h =
           put-same (put l f W (λ i. getD products (getD l (g + i) 0 % 16) 0)) g W (λ i. getD l (f + i) 0) (λ i. number q (S p r i)) byte
           ∙ ap (λ (w : List ℕ). put w g W (λ i. number q (S p r i)))
-              (put-same l f W (λ i. getD products (getD l (g + i) 0 % 16) 0) v
-              (λ i hi. product i hi ∙ ap (number q) (sym (raised-below (S p r) ρ c (S p′ r′) i (omega arith)))))
+          (put-same l f W (λ i. getD products (getD l (g + i) 0 % 16) 0) v
+          (λ i hi. product i hi ∙ ap (number q) (sym (raised-below (S p r) ρ c (S p′ r′) i (omega arith)))))
           ∙ both-rows c
         where
           f : ℕ
           f = rowPlace q p r
+
           g : ℕ
           g = rowPlace q p′ r′
+
           W : ℕ
           W = width q
+
           v : ℕ → ℕ
           v i = number q (raisedPlus q (S p r) ρ c (S p′ r′) i)
 
@@ -137,46 +146,57 @@ module _ (q : ℕ) (known : Known q) where
       unfolding exchangedAbove exchangedBelow
       exchange-law c h =
           put-same (put upper f c (λ i. getD products (getD upper (g + i) 0 % 16) 0)) g c (λ i. getD upper (f + i) 0) w
-              (λ i hi. at-f i hi ∙ byte i (omega arith))
+          (λ i hi. at-f i hi ∙ byte i (omega arith))
           ∙ ap (λ (z : List ℕ). put z g c w)
-              (put-same upper f c (λ i. getD products (getD upper (g + i) 0 % 16) 0) v below
-              ∙ ap (λ (z : List ℕ). put z f c v)
-                  (ap (λ (z : List ℕ). put z (g + c) n (λ k. getD l (f + (c + k)) 0)) (put-same l (f + c) n (λ k. raisedByte l f g c products (c + k)) (λ k. v (c + k)) above)
-                  ∙ put-same (put l (f + c) n (λ k. v (c + k))) (g + c) n (λ k. getD l (f + (c + k)) 0) (λ k. w (c + k)) (λ k hk. byte (c + k) (omega arith)))
-              ∙ put-put (put l (f + c) n (λ k. v (c + k))) (g + c) n (λ k. w (c + k)) f c v (⊎-elim (λ a. inr (omega arith)) (λ a. inl (omega arith)) apart)
-              ∙ ap (λ (z : List ℕ). put z (g + c) n (λ k. w (c + k))) (put-parts-back l f c n v))
+          (put-same upper f c (λ i. getD products (getD upper (g + i) 0 % 16) 0) v below
+          ∙ ap (λ (z : List ℕ). put z f c v)
+          (ap (λ (z : List ℕ). put z (g + c) n (λ k. getD l (f + (c + k)) 0)) (put-same l (f + c) n (λ k. raisedByte l f g c products (c + k)) (λ k. v (c + k)) above)
+          ∙ put-same (put l (f + c) n (λ k. v (c + k))) (g + c) n (λ k. getD l (f + (c + k)) 0) (λ k. w (c + k)) (λ k hk. byte (c + k) (omega arith)))
+          ∙ put-put (put l (f + c) n (λ k. v (c + k))) (g + c) n (λ k. w (c + k)) f c v (⊎-elim (λ a. inr (omega arith)) (λ a. inl (omega arith)) apart)
+          ∙ ap (λ (z : List ℕ). put z (g + c) n (λ k. w (c + k))) (put-parts-back l f c n v))
           ∙ put-parts-back (put l f (c + n) v) g c n w
           ∙ (rw wide (both-rows c))
         where
           f : ℕ
           f = rowPlace q p r
+
           g : ℕ
           g = rowPlace q p′ r′
+
           n : ℕ
           n = width q - c
+
           v : ℕ → ℕ
           v i = number q (raisedPlus q (S p r) ρ c (S p′ r′) i)
+
           w : ℕ → ℕ
           w i = number q (S p r i)
+
           wide : c + n ≡ width q
           wide = omega arith
+
           lower : List ℕ
           lower = put l (f + c) n (λ k. raisedByte l f g c products (c + k))
+
           upper : List ℕ
           upper = put lower (g + c) n (λ k. getD l (f + (c + k)) 0)
+
           at-f : (i : ℕ) → i < c → getD upper (f + i) 0 ≡ getD l (f + i) 0
           at-f i hi =
               put-out lower (g + c) n (λ k. getD l (f + (c + k)) 0) (f + i) 0 (⊎-elim (λ a. inl (omega arith)) (λ a. inr (omega arith)) apart)
               ∙ put-out l (f + c) n (λ k. raisedByte l f g c products (c + k)) (f + i) 0 (inl (omega arith))
+
           at-g : (i : ℕ) → i < c → getD upper (g + i) 0 ≡ getD l (g + i) 0
           at-g i hi =
               put-out lower (g + c) n (λ k. getD l (f + (c + k)) 0) (g + i) 0 (inl (omega arith))
               ∙ put-out l (f + c) n (λ k. raisedByte l f g c products (c + k)) (g + i) 0 (⊎-elim (λ a. inr (omega arith)) (λ a. inl (omega arith)) apart)
+
           below : (i : ℕ) → i < c → getD products (getD upper (g + i) 0 % 16) 0 ≡ v i
           below i hi =
               ap (λ (a : ℕ). getD products (a % 16) 0) (at-g i hi)
               ∙ product i (omega arith)
               ∙ ap (number q) (sym (raised-below (S p r) ρ c (S p′ r′) i hi))
+
           above : (k : ℕ) → k < n → raisedByte l f g c products (c + k) ≡ v (c + k)
           above k hk =
               let z : c + k - c ≡ k = omega arith in

@@ -2,16 +2,16 @@
 -- Row r of a polynomial is the one of y^(r mod q) in part r / q. Document 01, "Lent areas".
 -- Assumes nothing.
 use mathlib.Core.Path.{_≡_}
-use mathlib.Core.Bool.{Bool, true, false, _&&_}
+use mathlib.Core.Bool.{true, false, _&&_}
 use mathlib.Core.List.{List, _++_}
 use Prim.Native.Nat.{ℕ, _+_, _-_, _*_, _/_, _%_, _<_, _≤_}
 use lib.Bits.{bitXor}
 use lib.Dec.{eqb, leb, ltb}
 use lib.ListN.{getD}
 use Rattle.algebra.specs.Symbols.{Symbols}
-use Rattle.algebra.specs.Functions.{Fn, shift, timesX, timesYs}
+use Rattle.algebra.specs.Functions.{shift}
 use Rattle.lists.specs.Tables.{put}
-use Rattle.symbols.specs.Rule.{Known, symbols, Sym, number}
+use Rattle.symbols.specs.Rule.{Known, symbols, number}
 use Rattle.published.specs.Start.{Polynomials, coefficient, width}
 use Rattle.published.specs.Picture.{areaSize, layout}
 

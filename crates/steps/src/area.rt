@@ -1,7 +1,7 @@
 // Rows of the work area by polynomial and row: the only functions that work out where a row stands.
 use crate::rows;
 ghost use mathlib.Core.Path.{_≡_};
-ghost use Prim.Native.Nat.{ℕ, _+_, _*_, _<_, _≤_};
+ghost use Prim.Native.Nat.{_+_, _*_, _<_};
 ghost use lib.ListN.{length};
 ghost use Rattle.symbols.specs.Rule.{Known, Sym};
 ghost use Rattle.published.specs.Start.{width};
@@ -25,7 +25,16 @@ pub fn row_place(q: usize, p: usize, r: usize) -> usize
 }
 
 // Adds to row r of polynomial p what `products` is the table row of, times x^shift, times row r2 of polynomial p2.
-pub fn add_row(work: &mut [u8], q: usize, p: usize, r: usize, p2: usize, r2: usize, shift: usize, products: [u8; 16])
+pub fn add_row(
+    work: &mut [u8],
+    q: usize,
+    p: usize,
+    r: usize,
+    p2: usize,
+    r2: usize,
+    shift: usize,
+    products: [u8; 16],
+)
     requires { ⌜ Area q (length (now work)) ⌝ }
     requires { ⌜ (p < 2 * q) × (r < 2 * q) × (p2 < 2 * q) × (r2 < 2 * q) × (p ≡ p2 → r ≡ r2 → ⊥) ⌝ }
     ensures { λ _. ⌜ ((ρ : Sym q) → Multiplies q products ρ → Turns q (now (work .entry)) (now (work .exit)) (rowAdded q p r p2 r2 shift ρ)) ⌝ }
@@ -40,7 +49,15 @@ pub fn add_row(work: &mut [u8], q: usize, p: usize, r: usize, p2: usize, r2: usi
 }
 
 // Row r of polynomial f becomes x^shift times itself plus the multiple of that of g, and row r of g becomes that of f.
-pub fn exchange_row(work: &mut [u8], q: usize, f: usize, g: usize, r: usize, shift: usize, products: [u8; 16])
+pub fn exchange_row(
+    work: &mut [u8],
+    q: usize,
+    f: usize,
+    g: usize,
+    r: usize,
+    shift: usize,
+    products: [u8; 16],
+)
     requires { ⌜ Area q (length (now work)) ⌝ }
     requires { ⌜ (f < 2 * q) × (g < 2 * q) × (r < 2 * q) × (f ≡ g → ⊥) ⌝ }
     ensures { λ _. ⌜ ((ρ : Sym q) → Multiplies q products ρ → Turns q (now (work .entry)) (now (work .exit)) (rowExchanged q f g r shift ρ)) ⌝ }

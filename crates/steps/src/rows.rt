@@ -19,7 +19,14 @@ pub fn add_bytes(work: &mut [u8], to: usize, from: usize, count: usize, products
 
 // From the last byte down to place `shift`: f's bytes become those `shift` places below plus the multiples of g's, and g's
 // become f's. Going down, no byte is overwritten before it is read.
-pub fn exchange_above(work: &mut [u8], f: usize, g: usize, shift: usize, width: usize, products: [u8; 16])
+pub fn exchange_above(
+    work: &mut [u8],
+    f: usize,
+    g: usize,
+    shift: usize,
+    width: usize,
+    products: [u8; 16],
+)
     requires { ⌜ (f + width ≤ length (now work)) × (g + width ≤ length (now work)) ⌝ }
     requires { ⌜ (f + width ≤ g) ⊎ (g + width ≤ f) ⌝ }
     requires { ⌜ shift ≤ width ⌝ }

@@ -9,11 +9,6 @@ use Rattle.steps.proofs.RowLaws.{add-law, add-past}
 use borrow.Author.Needs.{needs}
 use Rattle.steps.proofs.area.add_row.Statement.{statement}
 use Rattle.steps.proofs.area.add_row.Tie as tie
-use Rattle.steps.proofs.area.add_row.Reads as reads
-use Rattle.steps.proofs.area.add_row.Lts as lts
-use Rattle.steps.proofs.area.row_place.Reads as row-place-reads
-use Rattle.steps.proofs.area.width_of.Reads as width-of-reads
-use Rattle.steps.proofs.rows.add_bytes.Reads as add-bytes-reads
 
 width-of-requires : tie.Need-width-of-requires
 width-of-requires c κs = search needs
@@ -22,9 +17,9 @@ returns : tie.Need-returns
 returns c =
     λ ρ m. record {
       shows = λ S rest e.
-        let s = c .before .before .before in
-        let b = s .pre .1 in
-        add-past _ (s .pre .0 .known) S _ rest e _ _ _ _ (b .0) (b .1) (b .2) (b .3) _ ρ m _ (rw (c .before .width-of .ensures) at (c .if1 .taken));
+          let s = c .before .before .before in
+          let b = s .pre .1 in
+          add-past _ (s .pre .0 .known) S _ rest e _ _ _ _ (b .0) (b .1) (b .2) (b .3) _ ρ m _ (rw (c .before .width-of .ensures) at (c .if1 .taken));
     }
 
 row-place-requires : tie.Need-row-place-requires
@@ -59,10 +54,10 @@ returns-2 : tie.Need-returns-2
 returns-2 c =
     λ ρ m. record {
       shows = λ S rest e.
-        let s = c .before .before .before .before .before .before .before .before .before in
-        let b = s .pre .1 in
-        (rw (c .before .before .before .before .before .row-place .ensures, c .before .before .before .before .row-place2 .ensures, c .before .before .before .before .before .before .before .width-of .ensures) at (c .before .before .add-bytes .ensures))
-        ∙ add-law _ (s .pre .0 .known) S _ rest e _ _ _ _ (b .0) (b .1) (b .2) (b .3) _ ρ m _ (omega (arith, c .before .before .before .before .before .before .before .width-of .ensures, c .before .before .before .before .before .before .if1 .left));
+          let s = c .before .before .before .before .before .before .before .before .before in
+          let b = s .pre .1 in
+          (rw (c .before .before .before .before .before .row-place .ensures, c .before .before .before .before .row-place2 .ensures, c .before .before .before .before .before .before .before .width-of .ensures) at (c .before .before .add-bytes .ensures))
+          ∙ add-law _ (s .pre .0 .known) S _ rest e _ _ _ _ (b .0) (b .1) (b .2) (b .3) _ ρ m _ (omega (arith, c .before .before .before .before .before .before .before .width-of .ensures, c .before .before .before .before .before .before .if1 .left));
     }
 
 pub add-row-spec : {M : Type 1} → statement M

@@ -9,12 +9,6 @@ use Rattle.steps.proofs.RowLaws.{exchange-law, exchange-past}
 use borrow.Author.Needs.{needs}
 use Rattle.steps.proofs.area.exchange_row.Statement.{statement}
 use Rattle.steps.proofs.area.exchange_row.Tie as tie
-use Rattle.steps.proofs.area.exchange_row.Reads as reads
-use Rattle.steps.proofs.area.exchange_row.Lts as lts
-use Rattle.steps.proofs.area.row_place.Reads as row-place-reads
-use Rattle.steps.proofs.area.width_of.Reads as width-of-reads
-use Rattle.steps.proofs.rows.exchange_above.Reads as exchange-above-reads
-use Rattle.steps.proofs.rows.exchange_below.Reads as exchange-below-reads
 
 width-of-requires : tie.Need-width-of-requires
 width-of-requires c κs = search needs
@@ -40,10 +34,10 @@ unfolding rowExchanged
 returns c =
     λ ρ m. record {
       shows = λ S rest e.
-        let s = c .before .before .before .before .before .before .before .before .before in
-        let b = s .pre .1 in
-        (rw (c .before .before .before .before .before .before .row-place .ensures, c .before .before .before .before .before .row-place2 .ensures, c .before .before .before .before .before .before .before .width-of .ensures) at (c .before .before .exchange-below .ensures))
-        ∙ exchange-past _ (s .pre .0 .known) S _ rest e _ _ _ _ (b .0) (b .2) (b .1) (b .2) _ ρ m (rows-differ _ _ _ _ _ (b .2) (b .2) (λ e d. b .3 e)) _ (rw (c .before .before .before .before .before .before .before .width-of .ensures) at (c .before .before .before .before .if1 .taken));
+          let s = c .before .before .before .before .before .before .before .before .before in
+          let b = s .pre .1 in
+          (rw (c .before .before .before .before .before .before .row-place .ensures, c .before .before .before .before .before .row-place2 .ensures, c .before .before .before .before .before .before .before .width-of .ensures) at (c .before .before .exchange-below .ensures))
+          ∙ exchange-past _ (s .pre .0 .known) S _ rest e _ _ _ _ (b .0) (b .2) (b .1) (b .2) _ ρ m (rows-differ _ _ _ _ _ (b .2) (b .2) (λ e d. b .3 e)) _ (rw (c .before .before .before .before .before .before .before .width-of .ensures) at (c .before .before .before .before .if1 .taken));
     }
 
 exchange-above-requires : tie.Need-exchange-above-requires
@@ -72,10 +66,10 @@ unfolding rowExchanged
 returns-2 c =
     λ ρ m. record {
       shows = λ S rest e.
-        let s = c .before .before .before .before .before .before .before .before .before .before .before .before .before in
-        let b = s .pre .1 in
-        (rw (c .before .before .before .before .before .before .exchange-above .ensures, c .before .before .before .before .before .before .before .before .before .before .row-place .ensures, c .before .before .before .before .before .before .before .before .before .row-place2 .ensures, c .before .before .before .before .before .before .before .before .before .before .before .width-of .ensures) at (c .before .before .exchange-below2 .ensures))
-        ∙ exchange-law _ (s .pre .0 .known) S _ rest e _ _ _ _ (b .0) (b .2) (b .1) (b .2) _ ρ m (rows-differ _ _ _ _ _ (b .2) (b .2) (λ e d. b .3 e)) _ (omega (arith, c .before .before .before .before .before .before .before .before .before .before .before .width-of .ensures, c .before .before .before .before .before .before .before .before .if1 .left));
+          let s = c .before .before .before .before .before .before .before .before .before .before .before .before .before in
+          let b = s .pre .1 in
+          (rw (c .before .before .before .before .before .before .exchange-above .ensures, c .before .before .before .before .before .before .before .before .before .before .row-place .ensures, c .before .before .before .before .before .before .before .before .before .row-place2 .ensures, c .before .before .before .before .before .before .before .before .before .before .before .width-of .ensures) at (c .before .before .exchange-below2 .ensures))
+          ∙ exchange-law _ (s .pre .0 .known) S _ rest e _ _ _ _ (b .0) (b .2) (b .1) (b .2) _ ρ m (rows-differ _ _ _ _ _ (b .2) (b .2) (λ e d. b .3 e)) _ (omega (arith, c .before .before .before .before .before .before .before .before .before .before .before .width-of .ensures, c .before .before .before .before .before .before .before .before .if1 .left));
     }
 
 pub exchange-row-spec : {M : Type 1} → statement M

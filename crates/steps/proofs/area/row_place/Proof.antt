@@ -3,15 +3,11 @@
 use mathlib.Core.Path.{ap}
 use Prim.Native.Nat.{ℕ, _+_, _*_}
 use native.Mathlib.Omega.{arith}
-use Rattle.published.specs.Start.{width}
 use Rattle.steps.specs.Area.{rowPlace}
 use Rattle.steps.proofs.Sizes.{sizes, row-number, row-small}
 use borrow.Author.Needs.{needs}
 use Rattle.steps.proofs.area.row_place.Statement.{statement}
 use Rattle.steps.proofs.area.row_place.Tie as tie
-use Rattle.steps.proofs.area.row_place.Reads as reads
-use Rattle.steps.proofs.area.row_place.Lts as lts
-use Rattle.steps.proofs.area.width_of.Reads as width-of-reads
 
 mul-result : tie.Need-mul-result
 mul-result c = omega (arith, sizes _ (c .pre .0))

@@ -6,8 +6,6 @@ use Rattle.steps.proofs.Sizes.{sizes}
 use borrow.Author.Needs.{needs}
 use Rattle.steps.proofs.area.width_of.Statement.{statement}
 use Rattle.steps.proofs.area.width_of.Tie as tie
-use Rattle.steps.proofs.area.width_of.Reads as reads
-use Rattle.steps.proofs.area.width_of.Lts as lts
 
 mul-result : tie.Need-mul-result
 mul-result c = omega (arith, sizes _ (c .pre))

@@ -11,8 +11,6 @@ use Rattle.steps.specs.Area.{summed}
 use borrow.Author.Needs.{needs}
 use Rattle.steps.proofs.rows.add_bytes.Statement.{statement}
 use Rattle.steps.proofs.rows.add_bytes.Tie as tie
-use Rattle.steps.proofs.rows.add_bytes.Reads as reads
-use Rattle.steps.proofs.rows.add_bytes.Lts as lts
 
 abbrev Inv-loop : tie.InvT-loop
 Inv-loop work₀ to from count products i₀ work i = (i ≤ count) × (work ≡ summed work₀ to from i products) × (length work ≡ length work₀)

@@ -10,8 +10,6 @@ use Rattle.steps.proofs.Bytes.{above-none, above-more}
 use borrow.Author.Needs.{needs}
 use Rattle.steps.proofs.rows.exchange_above.Statement.{statement}
 use Rattle.steps.proofs.rows.exchange_above.Tie as tie
-use Rattle.steps.proofs.rows.exchange_above.Reads as reads
-use Rattle.steps.proofs.rows.exchange_above.Lts as lts
 
 abbrev Inv-loop : tie.InvT-loop
 Inv-loop work₀ f g shift width products i₀ work i =

@@ -9,8 +9,6 @@ use Rattle.steps.proofs.Bytes.{below-none, below-more}
 use borrow.Author.Needs.{needs}
 use Rattle.steps.proofs.rows.exchange_below.Statement.{statement}
 use Rattle.steps.proofs.rows.exchange_below.Tie as tie
-use Rattle.steps.proofs.rows.exchange_below.Reads as reads
-use Rattle.steps.proofs.rows.exchange_below.Lts as lts
 
 abbrev Inv-loop : tie.InvT-loop
 Inv-loop work₀ f g count products i₀ work i = (i ≤ count) × (work ≡ exchangedBelow work₀ f g products i) × (length work ≡ length work₀)
