@@ -1,3 +1,4 @@
 pub mod Points
 pub mod Codes
 pub mod Rows
+pub mod Ranks

@@ -1,0 +1,5 @@
+pub mod Ranks
+pub mod Arranged
+pub mod MessageFunction
+pub mod RowLaws
+pub mod CodeLaws
