@@ -73,6 +73,17 @@ wrote-more {l} {m} {n} {a} {b} {at} {next} {last} fits first second =
 pub wrote-length : {l m a : List ℕ} {at next : ℕ} → at + length a ≤ length l → Wrote l at a m next → length m ≡ length l
 wrote-length {l} {m} {a} {at} {next} fits done = ap length (done .buffer) ∙ written-length l at a fits
 
+-- a text written at a buffer's start is its front
+pub wrote-front : {l m text : List ℕ} {next : ℕ} → Wrote l 0 text m next → take next m ≡ text
+unfolding written
+wrote-front {l} {m} {text} {next} done =
+    ap (λ (k : ℕ). take k m) (done .place) ∙ ap (take (0 + length text)) (done .buffer)
+    ∙ take-at text (drop (0 + length text) l) (0 + length text) (omega arith)
+
+-- a text that fits ends within the buffer
+pub wrote-within : {l m a : List ℕ} {at next : ℕ} → at + length a ≤ length l → Wrote l at a m next → next ≤ length m
+wrote-within {l} {m} {a} {at} {next} fits done = omega (arith, done .place, wrote-length fits done)
+
 -- one digit is all of a number below ten
 pub wrote-small : {l m : List ℕ} {at n d next : ℕ} → n < 10 → d ≡ 48 + n → Wrote l at (d ∷ []) m next → Wrote l at (digits n) m next
 wrote-small {l} {m} {at} {n} {d} {next} small e done = rw (digits-small n small, ← e) done

@@ -1,0 +1,157 @@
+-- What a text is read as is what it is taken as: the two readings of a text agree.
+-- Assumes nothing.
+use mathlib.Core.Path.{_≡_, refl, ap, ap₂, sym, _∙_, subst}
+use mathlib.Core.Bool.{Bool, true, false, false≢true, _&&_, and-false}
+use mathlib.Core.List.{List, [], _∷_, map}
+use Prim.Native.Nat.{ℕ, zero, suc, _≤_, _<_}
+use native.Mathlib.Nat.{mod-eq-of-lt}
+use native.Mathlib.Omega.{arith}
+use borrow.Author.Tests.{eqb-true, eq-eqb, leb-true, le-leb, lt-leb, ltb-true, lt-ltb}
+use lib.Dec.{leb, ltb, eqb}
+use lib.ListN.{length, getD, take, drop}
+use Rattle.trace.specs.Request.{request, Taken, Said, asks, nothing, Means, numbersFrom, asByte, sameText, isTaken, ifTaken, saidBy, reading}
+use Rattle.trace.proofs.Numbers.{reads-request, numbers-small}
+
+-- two tests pass where both do
+both : (a b : Bool) → (a && b) ≡ true → (a ≡ true) × (b ≡ true)
+both true b h = (refl, h)
+both false b h = absurd (false≢true h)
+
+-- texts that pass the test are the same, and the same text passes it
+same-text : (a b : List ℕ) → sameText a b ≡ true → a ≡ b
+unfolding sameText
+same-text [] [] h = refl
+same-text [] (y ∷ b) h = absurd (false≢true h)
+same-text (x ∷ a) [] h = absurd (false≢true h)
+same-text (x ∷ a) (y ∷ b) h =
+    let t = both (eqb x y) (sameText a b) h in
+    ap₂ _∷_ (eqb-true x y (t .0)) (same-text a b (t .1))
+
+text-same : (a : List ℕ) → sameText a a ≡ true
+unfolding sameText
+text-same [] = refl
+text-same (x ∷ a) = rw (eq-eqb x x refl) (text-same a)
+
+-- whether two texts are the same is what the test says
+pub tells-same : (a b : List ℕ) (r : Bool) → (r ≡ true → a ≡ b) × (a ≡ b → r ≡ true) → r ≡ sameText a b
+tells-same a b true h = sym (subst (λ (l : List ℕ). sameText a l ≡ true) (h .0 refl) (text-same a))
+tells-same a b false h = by (sameText a b) refl
+  where
+    by : (t : Bool) → sameText a b ≡ t → false ≡ sameText a b
+    by true e = absurd (false≢true (h .1 (same-text a b e)))
+    by false e = sym e
+
+-- a row that is read has bytes, and bytes are read as they are
+bytes-small : (numbers : List ℕ) (i : ℕ) → getD (map asByte numbers) i 0 ≤ 255
+unfolding asByte
+bytes-small [] i = omega arith
+bytes-small (n ∷ numbers) zero = omega arith
+bytes-small (n ∷ numbers) (suc i) = bytes-small numbers i
+
+bytes-same : (row : List ℕ) → ((i : ℕ) → getD row i 0 ≤ 255) → map asByte row ≡ row
+unfolding asByte
+bytes-same [] h = refl
+bytes-same (n ∷ row) h = ap₂ _∷_ (mod-eq-of-lt (omega (arith, h 0))) (bytes-same row (λ i. h (suc i)))
+
+-- the test's three parts
+is-taken : (text : List ℕ) (q u : ℕ) (row : List ℕ) → length text ≤ 4096 → 0 < length row → isTaken text q u row ≡ sameText text (request q u row)
+unfolding isTaken
+is-taken text q u row short some = rw (le-leb (length text) 4096 short, lt-ltb 0 (length row) some)
+
+-- what is said by q, u and a row that were read
+said-row : (text : List ℕ) (q u : ℕ) (rest row : List ℕ) → numbersFrom 0 text ≡ q ∷ u ∷ rest → map asByte rest ≡ row
+    → reading text ≡ ifTaken (isTaken text q u row) (asks q u row)
+unfolding reading saidBy
+said-row text q u rest row numbers bytes =
+    ap (saidBy text) numbers ∙ ap (λ (l : List ℕ). ifTaken (isTaken text q u l) (asks q u l)) bytes
+
+-- a text that is taken is read as it is taken
+reads-taken : (text : List ℕ) (q u : ℕ) (row : List ℕ) → Taken text q u row → reading text ≡ asks q u row
+reads-taken text q u row t =
+    let numbers : numbersFrom 0 text ≡ q ∷ u ∷ row =
+    ap (numbersFrom 0) (t .says)
+    ∙ reads-request q u row (omega (arith, t .short-q)) (omega (arith, t .short-u)) (t .some) (λ i. omega (arith, t .bytes i)) in
+    let taken : isTaken text q u row ≡ true =
+    is-taken text q u row (t .short) (t .some) ∙ subst (λ (l : List ℕ). sameText text l ≡ true) (t .says) (text-same text) in
+    said-row text q u row row numbers (bytes-same row (t .bytes)) ∙ ap (λ (b : Bool). ifTaken b (asks q u row)) taken
+
+-- what passes the test is taken
+test-taken : (text : List ℕ) (q u : ℕ) (row : List ℕ) → q < 1000 → u < 1000 → ((i : ℕ) → getD row i 0 ≤ 255) → isTaken text q u row ≡ true → Taken text q u row
+unfolding isTaken
+test-taken text q u row hq hu bytes test =
+    let short = both (leb (length text) 4096) (ltb 0 (length row) && sameText text (request q u row)) test in
+    let some = both (ltb 0 (length row)) (sameText text (request q u row)) (short .1) in
+    record {
+      says = same-text text (request q u row) (some .1);
+      some = ltb-true 0 (length row) (some .0);
+      short-q = omega arith;
+      short-u = omega arith;
+      bytes = bytes;
+      short = leb-true (length text) 4096 (short .0);
+    }
+
+-- what is said, if anything, is taken
+SaidTaken : List ℕ → Said → Type 0
+SaidTaken text (asks q u row) = Taken text q u row
+SaidTaken text nothing = Unit
+
+-- what is read, if anything, is taken
+read-taken : (text : List ℕ) → SaidTaken text (reading text)
+unfolding reading saidBy SaidTaken
+read-taken text = by-test (isTaken text q u row) refl
+  where
+    numbers : List ℕ
+    numbers = numbersFrom 0 text
+
+    q : ℕ
+    q = getD numbers 0 0
+
+    u : ℕ
+    u = getD numbers 1 0
+
+    row : List ℕ
+    row = map asByte (drop 2 numbers)
+
+    by-test : (t : Bool) → isTaken text q u row ≡ t → SaidTaken text (ifTaken t (asks q u row))
+    by-test true e =
+        let small = numbers-small 0 text (omega arith) in
+        test-taken text q u row (small 0) (small 1) (bytes-small (drop 2 numbers)) e
+    by-test false e = tt
+
+-- a text says what it is taken as
+reading-means : (text : List ℕ) → Means text (reading text)
+unfolding SaidTaken
+reading-means text =
+    record {
+      taken = λ q u row e. subst (SaidTaken text) e (read-taken text);
+      only = reads-taken text;
+    }
+
+-- an answer that is the reading says what the text is taken as
+pub answers : (text : List ℕ) {said : Said} → said ≡ reading text → (said ≡ reading text) × Means text said
+answers text e = (e, subst (Means text) (sym e) (reading-means text))
+
+-- a text that is too long says nothing
+pub reads-long : (text : List ℕ) → 4096 < length text → nothing ≡ reading text
+unfolding reading saidBy isTaken
+reads-long text h = rw (lt-leb (length text) 4096 h)
+
+-- nor does one that has no row
+pub reads-none : (text : List ℕ) → drop 2 (numbersFrom 0 text) ≡ [] → nothing ≡ reading text
+unfolding reading saidBy isTaken
+reads-none text h = rw (h, and-false)
+
+pub reads-empty : (text : List ℕ) (q u : ℕ) (rest row : List ℕ) (count : ℕ) → numbersFrom 0 text ≡ q ∷ u ∷ rest → count ≡ 0
+    → take count row ≡ map asByte rest → nothing ≡ reading text
+unfolding isTaken
+reads-empty text q u rest row count numbers none bytes =
+    let empty : map asByte rest ≡ [] = sym bytes ∙ ap (λ (k : ℕ). take k row) none in
+    sym (said-row text q u rest [] numbers empty ∙ simp and-false)
+
+-- where q, u and a row were read, the comparison decides
+pub reads-row : (text : List ℕ) (q u : ℕ) (rest row : List ℕ) (r : Bool) → length text ≤ 4096 → 0 < length row
+    → numbersFrom 0 text ≡ q ∷ u ∷ rest → row ≡ map asByte rest → r ≡ sameText text (request q u row)
+    → ifTaken r (asks q u row) ≡ reading text
+reads-row text q u rest row r short some numbers bytes test =
+    ap (λ (t : Bool). ifTaken t (asks q u row)) (test ∙ sym (is-taken text q u row short some))
+    ∙ sym (said-row text q u rest row numbers (sym bytes))

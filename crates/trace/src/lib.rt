@@ -1,0 +1,2 @@
+// rowtrace's text read and its lines made.
+mod request;
