@@ -1,0 +1,15 @@
+pub mod Reading
+pub mod Simultaneous
+pub mod Degrees
+pub mod PairNumbers
+pub mod PairStep
+pub mod InPlace
+pub mod Substitution
+pub mod PairRule
+pub mod OneStep
+pub mod StartLeads
+pub mod StartZeros
+pub mod Given
+pub mod After
+pub mod Greatest
+pub mod MeaningAfter
