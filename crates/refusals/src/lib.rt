@@ -1,4 +1,7 @@
 // Why a call refuses: one case for each number of document 01's table of refusals.
+ghost use mathlib.Core.Path.{_≡_};
+ghost use Rattle.refusals.specs.Numbers.{refusalNumber};
+
 pub enum Refusal {
     // 1: q is not 2 or 4
     UnknownQ,
@@ -22,4 +25,23 @@ pub enum Refusal {
     WrongPayload,
     // 11: fewer than R records
     FewRecords,
+}
+
+// The number itself, for callers that are told no more.
+pub fn number_of(why: Refusal) -> u8
+    ensures { λ r. ⌜ r ≡ refusalNumber why ⌝ }
+{
+    match why {
+        Refusal::UnknownQ => 1,
+        Refusal::NoCode => 2,
+        Refusal::TooManySteps => 3,
+        Refusal::WrongLength => 4,
+        Refusal::NoSymbol => 5,
+        Refusal::ShortWork => 6,
+        Refusal::ShortOutput => 7,
+        Refusal::BeyondReach => 8,
+        Refusal::BadBlock => 9,
+        Refusal::WrongPayload => 10,
+        Refusal::FewRecords => 11,
+    }
 }
