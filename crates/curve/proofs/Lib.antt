@@ -1,3 +1,4 @@
+mod Sizes
 pub mod Ranks
 pub mod Arranged
 pub mod MessageFunction

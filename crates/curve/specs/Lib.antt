@@ -2,3 +2,5 @@ pub mod Points
 pub mod Codes
 pub mod Rows
 pub mod Ranks
+pub mod Answers
+pub mod Ordinates

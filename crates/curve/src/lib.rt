@@ -1,1 +1,153 @@
-// The codes and the curve's points.
+// Weights, codes and points of the curve y^q + y = x^(q+1).
+use refusals::Refusal;
+ghost use mathlib.Core.Path.{_≡_};
+ghost use mathlib.Core.Bool.{true};
+ghost use Prim.Native.Nat.{_<_, _*_};
+ghost use Rattle.algebra.specs.Weights.{gap};
+ghost use Rattle.symbols.specs.Rule.{Known, symbols, number};
+ghost use Rattle.curve.specs.Codes.{pointCount, isCode, dimension as dimensionOf, reach as reachOf};
+ghost use Rattle.curve.specs.Answers.{monomialOf, codeAnswer};
+ghost use Rattle.curve.specs.Ordinates.{ordinatesAbove, pointNumbers};
+
+// What a weight belongs to.
+pub enum Monomial {
+    // no monomial has this weight
+    Gap,
+    // x^x · y^y has it
+    Powers { x: usize, y: usize },
+}
+
+// Whether q and u are a code.
+pub enum Acceptance {
+    Accepted,
+    Refused(Refusal),
+}
+
+// A point by the numbers of its symbols.
+pub struct Point {
+    pub x: u8,
+    pub y: u8,
+}
+
+// The sets of ordinates: for q = 4 those above x⁵ = 0, 1, 6 and 7, for q = 2 those above x³ = 0 and 1.
+const SETS_4: [[u8; 4]; 4] = [[0, 1, 6, 7], [2, 3, 4, 5], [10, 11, 12, 13], [8, 9, 14, 15]];
+
+const SETS_2: [[u8; 4]; 2] = [[0, 1, 0, 0], [2, 3, 0, 0]];
+
+pub fn is_gap(q: usize, s: usize) -> bool
+    requires { ⌜ Known q ⌝ }
+    ensures { λ r. ⌜ r ≡ gap q s ⌝ }
+{
+    s < (q + 1) * (s % q)
+}
+
+// The monomial of a weight, or that the weight is a gap.
+pub fn monomial_of(q: usize, s: usize) -> Monomial
+    requires { ⌜ Known q ⌝ }
+    ensures { λ r. ⌜ r ≡ monomialOf q s ⌝ }
+{
+    let y = s % q;
+    let least = (q + 1) * y;
+    if s < least {
+        Monomial::Gap
+    } else {
+        Monomial::Powers {
+            x: (s - least) / q,
+            y,
+        }
+    }
+}
+
+// How many points there are.
+pub fn point_count(q: usize) -> usize
+    requires { ⌜ Known q ⌝ }
+    ensures { λ r. ⌜ r ≡ pointCount q ⌝ }
+{
+    q * q * q
+}
+
+// Whether u is a non-gap from q to n - 1.
+pub fn is_code(q: usize, u: usize) -> bool
+    requires { ⌜ Known q ⌝ }
+    ensures { λ r. ⌜ r ≡ isCode q u ⌝ }
+{
+    if u < q {
+        return false;
+    }
+    if point_count(q) <= u {
+        return false;
+    }
+    !is_gap(q, u)
+}
+
+// A code is accepted, or refused with 1 or 2.
+pub fn code(q: usize, u: usize) -> Acceptance
+    ensures { λ r. ⌜ r ≡ codeAnswer q u ⌝ }
+{
+    if !symbols::is_known(q) {
+        return Acceptance::Refused(Refusal::UnknownQ);
+    }
+    if !is_code(q, u) {
+        return Acceptance::Refused(Refusal::NoCode);
+    }
+    Acceptance::Accepted
+}
+
+// k, the length of a message.
+pub fn dimension(q: usize, u: usize) -> usize
+    requires { ⌜ Known q × (u < pointCount q) ⌝ }
+    ensures { λ r. ⌜ r ≡ dimensionOf q u ⌝ }
+{
+    let mut count = 0;
+    let mut s = 0;
+    while s <= u {
+        if !is_gap(q, s) {
+            count += 1;
+        }
+        s += 1;
+    }
+    count
+}
+
+// The reach of a code.
+pub fn reach(q: usize, u: usize) -> usize
+    requires { ⌜ Known q ⌝ }
+    ensures { λ r. ⌜ r ≡ reachOf q u ⌝ }
+{
+    let n = point_count(q);
+    if u < n { (n - u - 1) / 2 } else { 0 }
+}
+
+// The ordinates above x, rising: q of them, and zeros up to four. They are the set chosen by x^(q+1), copied.
+pub fn ordinates(q: usize, x: u8) -> [u8; 4]
+    requires { ⌜ Known q ⌝ }
+    ensures { λ r. ⌜ r ≡ ordinatesAbove q x ⌝ }
+{
+    let norm = symbols::power(q, x, q + 1);
+    if q == 4 {
+        let place = match norm {
+            0 => 0,
+            1 => 1,
+            6 => 2,
+            _ => 3,
+        };
+        SETS_4[place]
+    } else {
+        let place = if norm == 0 { 0 } else { 1 };
+        SETS_2[place]
+    }
+}
+
+// Point number m, x rising and then y rising; past the last point the origin.
+pub fn point_at(q: usize, m: usize) -> Point
+    requires { ⌜ Known q ⌝ }
+    ensures { λ r. ⌜ r ≡ pointNumbers q m ⌝ }
+{
+    if m < point_count(q) {
+        let x = (m / q) as u8;
+        let above = ordinates(q, x);
+        Point { x, y: above[m % q] }
+    } else {
+        Point { x: 0, y: 0 }
+    }
+}

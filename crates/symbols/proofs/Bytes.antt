@@ -40,10 +40,22 @@ pub size-power : (q : ℕ) → Known q → size q ≡ 2 ^ q
 unfolding Known size
 size-power q = ⊎-elim (λ (e : q ≡ 2). rw e) (λ (e : q ≡ 4). rw e)
 
--- no known q has more than sixteen symbols
+-- a known q is small, and so are its square and its cube
+pub known-low : (q : ℕ) → Known q → 2 ≤ q
+unfolding Known
+known-low q = ⊎-elim (λ (e : q ≡ 2). rw e (omega arith)) (λ (e : q ≡ 4). rw e (omega arith))
+
+pub known-high : (q : ℕ) → Known q → q ≤ 4
+unfolding Known
+known-high q = ⊎-elim (λ (e : q ≡ 2). rw e (omega arith)) (λ (e : q ≡ 4). rw e (omega arith))
+
 pub square-small : (q : ℕ) → Known q → q * q ≤ 16
 unfolding Known
 square-small q = ⊎-elim (λ (e : q ≡ 2). rw e (omega arith)) (λ (e : q ≡ 4). rw e (omega arith))
+
+pub cube-small : (q : ℕ) → Known q → q * q * q ≤ 64
+unfolding Known
+cube-small q = ⊎-elim (λ (e : q ≡ 2). rw e (omega arith)) (λ (e : q ≡ 4). rw e (omega arith))
 
 -- the number of a byte's symbol is the byte's remainder
 pub number-of-symbol : (q a : ℕ) → number q (symbol q a) ≡ a % size q
