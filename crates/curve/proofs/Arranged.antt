@@ -31,7 +31,7 @@ module _ (𝓢 : Symbols) (q : ℕ) where
     pub rising : (a b c : ℕ) → a < q * q → b < q → c < b → number (pointAt 𝓢 q (a * q + c) .y) < number (pointAt 𝓢 q (a * q + b) .y)
 
   -- point m of a list of points
-  abbrev at : List (Point 𝓢 q) → ℕ → Point 𝓢 q
+  abbrev pub at : List (Point 𝓢 q) → ℕ → Point 𝓢 q
   at Ps m = getD Ps m (record { x = 𝟘; y = 𝟘 })
 
   -- the same as tests of a list of points

@@ -1,6 +1,7 @@
 mod Sizes
 pub mod Ranks
 pub mod Arranged
+pub mod OrdinateSets
 pub mod MessageFunction
 pub mod RowLaws
 pub mod CodeLaws

@@ -1,19 +1,18 @@
 // Weights, codes and points of the curve y^q + y = x^(q+1).
 use refusals::Refusal;
 ghost use mathlib.Core.Path.{_≡_};
-ghost use mathlib.Core.Bool.{true};
-ghost use Prim.Native.Nat.{_<_, _*_};
+ghost use Prim.Native.Nat.{_<_};
 ghost use Rattle.algebra.specs.Weights.{gap};
-ghost use Rattle.symbols.specs.Rule.{Known, symbols, number};
+ghost use Rattle.symbols.specs.Rule.{Known};
 ghost use Rattle.curve.specs.Codes.{pointCount, isCode, dimension as dimensionOf, reach as reachOf};
 ghost use Rattle.curve.specs.Answers.{monomialOf, codeAnswer};
-ghost use Rattle.curve.specs.Ordinates.{ordinatesAbove, pointNumbers};
+ghost use Rattle.curve.specs.Ordinates.{setPlace, ordinatesAbove, pointNumbers};
 
 // What a weight belongs to.
 pub enum Monomial {
     // no monomial has this weight
     Gap,
-    // x^x · y^y has it
+    // the powers of x and of y in the monomial that has it
     Powers { x: usize, y: usize },
 }
 
@@ -34,6 +33,7 @@ const SETS_4: [[u8; 4]; 4] = [[0, 1, 6, 7], [2, 3, 4, 5], [10, 11, 12, 13], [8, 
 
 const SETS_2: [[u8; 4]; 2] = [[0, 1, 0, 0], [2, 3, 0, 0]];
 
+// Whether no monomial has this weight.
 pub fn is_gap(q: usize, s: usize) -> bool
     requires { ⌜ Known q ⌝ }
     ensures { λ r. ⌜ r ≡ gap q s ⌝ }
@@ -118,6 +118,18 @@ pub fn reach(q: usize, u: usize) -> usize
     if u < n { (n - u - 1) / 2 } else { 0 }
 }
 
+// The place of the set that belongs to x⁵.
+fn set_place(norm: u8) -> usize
+    ensures { λ r. ⌜ r ≡ setPlace norm ⌝ }
+{
+    match norm {
+        0 => 0,
+        1 => 1,
+        6 => 2,
+        _ => 3,
+    }
+}
+
 // The ordinates above x, rising: q of them, and zeros up to four. They are the set chosen by x^(q+1), copied.
 pub fn ordinates(q: usize, x: u8) -> [u8; 4]
     requires { ⌜ Known q ⌝ }
@@ -125,15 +137,10 @@ pub fn ordinates(q: usize, x: u8) -> [u8; 4]
 {
     let norm = symbols::power(q, x, q + 1);
     if q == 4 {
-        let place = match norm {
-            0 => 0,
-            1 => 1,
-            6 => 2,
-            _ => 3,
-        };
+        let place = set_place(norm);
         SETS_4[place]
     } else {
-        let place = if norm == 0 { 0 } else { 1 };
+        let place = (norm % 2) as usize;
         SETS_2[place]
     }
 }

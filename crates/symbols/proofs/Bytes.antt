@@ -45,6 +45,9 @@ pub known-low : (q : ℕ) → Known q → 2 ≤ q
 unfolding Known
 known-low q = ⊎-elim (λ (e : q ≡ 2). rw e (omega arith)) (λ (e : q ≡ 4). rw e (omega arith))
 
+pub known-positive : (q : ℕ) → Known q → 0 < q
+known-positive q k = omega (arith, known-low q k)
+
 pub known-high : (q : ℕ) → Known q → q ≤ 4
 unfolding Known
 known-high q = ⊎-elim (λ (e : q ≡ 2). rw e (omega arith)) (λ (e : q ≡ 4). rw e (omega arith))

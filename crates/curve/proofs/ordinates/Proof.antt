@@ -1,41 +1,44 @@
+-- `curve::ordinates` meets its contract. Assumes nothing.
+use native.Mathlib.Omega.{arith}
 use borrow.Author.Needs.{needs}
+use borrow.Author.Tests.{eq-eqb, ne-eqb}
+use Rattle.symbols.proofs.Bytes.{known-high}
+use Rattle.curve.specs.Ordinates.{sets4, sets2, ordinateSet, ordinatesAbove}
+use Rattle.curve.proofs.OrdinateSets.{place-small}
 use Rattle.curve.proofs.ordinates.Statement.{statement}
 use Rattle.curve.proofs.ordinates.Tie as tie
-use Rattle.curve.proofs.ordinates.Reads as reads
-use Rattle.curve.proofs.ordinates.Lts as lts
-use Rattle.symbols.proofs.power.Reads as power-reads
 
--- src/lib.rt:120:37
 add-power : tie.Need-add-power
-add-power c = ?
+add-power c = omega (arith, known-high _ (c .pre))
 
--- src/lib.rt:120:9
 power-requires : tie.Need-power-requires
 power-requires c κs = search needs
 
--- src/lib.rt:128:9
+set-place-requires : tie.Need-set-place-requires
+set-place-requires c κs = search needs
+
 mul-result : tie.Need-mul-result
-mul-result c = ?
+mul-result c = omega (arith, c .set-place .ensures, place-small (c .before .before .power .result))
 
--- src/lib.rt:128:9
 array-copy-out-result : tie.Need-array-copy-out-result
-array-copy-out-result c = ?
+array-copy-out-result c = omega (arith, c .set-place .ensures, place-small (c .before .before .power .result))
 
--- src/lib.rt:131:9
+cast-place : tie.Need-cast-place
+cast-place c = search needs
+
 mul-result-2 : tie.Need-mul-result-2
-mul-result-2 c = ?
+mul-result-2 c = search needs
 
--- src/lib.rt:131:9
 array-copy-out-result-2 : tie.Need-array-copy-out-result-2
-array-copy-out-result-2 c = ?
+array-copy-out-result-2 c = search needs
 
--- src/lib.rt:116:1
 returns : tie.Need-returns
-returns c = ?
+unfolding ordinatesAbove ordinateSet sets4
+returns c = rw (eq-eqb _ _ (c .before .before .if1 .taken), c .before .set-place .ensures, c .before .before .before .power .ensures)
 
--- src/lib.rt:116:1
 returns-2 : tie.Need-returns-2
-returns-2 c = ?
+unfolding ordinatesAbove ordinateSet sets2
+returns-2 c = rw (ne-eqb _ _ (c .before .if1 .left), c .before .before .power .ensures)
 
 pub ordinates-spec : {M : Type 1} → statement M
 ordinates-spec =
@@ -43,8 +46,10 @@ ordinates-spec =
     (tie.spec
     add-power
     power-requires
+    set-place-requires
     mul-result
     array-copy-out-result
+    cast-place
     mul-result-2
     array-copy-out-result-2
     returns

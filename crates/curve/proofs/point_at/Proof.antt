@@ -1,42 +1,45 @@
+-- `curve::point_at` meets its contract. Assumes nothing.
+use native.Mathlib.Nat.{mod-lt}
+use native.Mathlib.Omega.{arith}
 use borrow.Author.Needs.{needs}
+use Rattle.symbols.proofs.Bytes.{known-positive, known-high, square-small}
+use Rattle.curve.proofs.OrdinateSets.{column-below, point-in, point-past}
 use Rattle.curve.proofs.point_at.Statement.{statement}
 use Rattle.curve.proofs.point_at.Tie as tie
-use Rattle.curve.proofs.point_at.Reads as reads
-use Rattle.curve.proofs.point_at.Lts as lts
-use Rattle.curve.proofs.ordinates.Reads as ordinates-reads
-use Rattle.curve.proofs.point_count.Reads as point-count-reads
 
--- src/lib.rt:141:12
 point-count-requires : tie.Need-point-count-requires
 point-count-requires c κs = search needs
 
--- src/lib.rt:142:18
 div-x : tie.Need-div-x
-div-x c = ?
+div-x c = known-positive _ (c .before .before .pre)
 
--- src/lib.rt:142:17
 cast-x : tie.Need-cast-x
-cast-x c = ?
+cast-x c =
+    let start = c .before .before in
+    omega (arith, column-below _ (start .args .m) (start .pre) (rw (c .before .point-count .ensures) at (c .if1 .taken)), square-small _ (start .pre))
 
--- src/lib.rt:143:21
 ordinates-requires : tie.Need-ordinates-requires
 ordinates-requires c κs = search needs
 
--- src/lib.rt:144:29
 rem-t8 : tie.Need-rem-t8
-rem-t8 c = ?
+rem-t8 c = known-positive _ (c .before .before .before .pre)
 
--- src/lib.rt:144:23
 array-read-t12 : tie.Need-array-read-t12
-array-read-t12 c = ?
+array-read-t12 c =
+    let start = c .before .before .before in
+    omega (arith, mod-lt (start .args .m) (known-positive _ (start .pre)), known-high _ (start .pre))
 
--- src/lib.rt:137:1
 returns : tie.Need-returns
-returns c = ?
+returns c =
+    let start = c .before .before .before in
+    let at = point-in (start .args .q) (start .args .m) (start .pre) (rw (c .before .before .point-count .ensures) at (c .before .if1 .taken)) in
+    rw (c .ordinates .ensures) (λ i. record { x = at .0 i; y = at .1 i })
 
--- src/lib.rt:137:1
 returns-2 : tie.Need-returns-2
-returns-2 c = ?
+returns-2 c =
+    let start = c .before .before in
+    let at = point-past (start .args .q) (start .args .m) (start .pre) (rw (c .before .point-count .ensures) at (c .if1 .left)) in
+    λ i. record { x = at .0 i; y = at .1 i }
 
 pub point-at-spec : {M : Type 1} → statement M
 point-at-spec =

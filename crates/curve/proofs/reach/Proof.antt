@@ -1,8 +1,9 @@
 -- `curve::reach` meets its contract. Assumes nothing.
 use borrow.Author.Needs.{needs}
-use mathlib.Core.Path.{refl}
+use mathlib.Core.Path.{_≡_}
+use Prim.Native.Nat.{_-_}
 use native.Mathlib.Omega.{arith}
-use Rattle.curve.specs.Codes.{reach}
+use Rattle.curve.specs.Codes.{pointCount, reach}
 use Rattle.curve.proofs.reach.Statement.{statement}
 use Rattle.curve.proofs.reach.Tie as tie
 
@@ -21,7 +22,7 @@ returns c = rw (c .before .point-count .ensures)
 
 returns-2 : tie.Need-returns-2
 unfolding reach
-returns-2 c = ?
+returns-2 c = let e : pointCount (c .before .before .args .q) - c .before .before .args .u ≡ 0 = omega (arith, c .before .point-count .ensures) in rw e
 
 pub reach-spec : {M : Type 1} → statement M
 reach-spec = tie.close (tie.spec point-count-requires sub-result sub-result-2 returns returns-2)
