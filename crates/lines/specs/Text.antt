@@ -4,8 +4,15 @@ use mathlib.Core.Path.{_≡_}
 use mathlib.Core.Bool.{true, false}
 use mathlib.Core.List.{List, [], _∷_, _++_}
 use Prim.Native.Nat.{ℕ, zero, suc, _+_, _/_, _%_}
+use Prim.Native.Char.{code}
+use Prim.Native.String.{String}
 use lib.Dec.{ltb}
 use lib.ListN.{length, take, drop}
+
+-- a text's characters
+unfoldable pub ascii : String → List ℕ
+ascii String.[] = []
+ascii (String._∷_ c text) = code c ∷ ascii text
 
 -- the decimal digits of n, the last `most` of them where there are more
 unfoldable pub lastDigits : ℕ → ℕ → List ℕ

@@ -1,2 +1,3 @@
 // rowtrace's text read and its lines made.
+mod report;
 mod request;
