@@ -123,6 +123,27 @@ module _ (q : ℕ) where
             let z : r ≡ d + (r - d) = omega arith in
             rw (e, z) (new (r - d) i (omega arith) ∙ sym (rows-in (r - d) i (omega arith)))
 
+  -- one replaced row
+  pub row-here : (p r : ℕ) (F : ℕ → Sym q) (S : Cells q) (i : ℕ) → withRows q p r 1 (λ n. F) S p r i ≡ F i
+  row-here p r F S i =
+      let z : r ≡ r + 0 = omega arith in
+      ap (λ (k : ℕ). withRows q p r 1 (λ n. F) S p k i) z ∙ rows-in p r 1 (λ n. F) S 0 i (omega arith)
+
+  -- the other rows
+  pub row-there : (p r : ℕ) (F : ℕ → Sym q) (S : Cells q) (p′ r′ i : ℕ) → (p′ ≡ p → r′ ≡ r → ⊥) → withRows q p r 1 (λ n. F) S p′ r′ i ≡ S p′ r′ i
+  row-there p r F S p′ r′ i ne = rows-out p r 1 (λ n. F) S p′ r′ i (λ e. ⊎-elim (λ (h : r′ < r). inl h) (λ (h : r ≤ r′). inr (next e h)) (lt-or-ge r′ r))
+    where
+      next : p′ ≡ p → r ≤ r′ → r + 1 ≤ r′
+      next e h = ⊎-elim (λ (k : r < r′). omega arith) (λ (k : r′ ≤ r). absurd (ne e (omega arith))) (lt-or-ge r r′)
+
+  -- cells with that row, and with the others as they were
+  pub row-is : (p r : ℕ) (F : ℕ → Sym q) (S T : Cells q) → ((i : ℕ) → T p r i ≡ F i)
+      → ((p′ r′ i : ℕ) → (p′ ≡ p → r′ ≡ r → ⊥) → T p′ r′ i ≡ S p′ r′ i) → (p′ r′ i : ℕ) → T p′ r′ i ≡ withRows q p r 1 (λ n. F) S p′ r′ i
+  row-is p r F S T new old =
+      rows-are p r 1 (λ n. F) S T
+      (λ j i h. let z : r + j ≡ r = omega arith in rw z (new i))
+      (λ p′ r′ i out. old p′ r′ i (λ e d. ⊎-elim (λ (h : r′ < r). omega arith) (λ (h : r + 1 ≤ r′). omega arith) (out e)))
+
   -- new symbols in one row
   pub shown-put : (S : Cells q) (l rest : List ℕ) → l ≡ shown q S ++ rest → (p r : ℕ) (v : ℕ → ℕ) (F : ℕ → Sym q) → p < 2 * q → r < 2 * q
       → ((i : ℕ) → i < width q → v i ≡ number q (F i))
@@ -133,17 +154,15 @@ module _ (q : ℕ) where
       let start : l ≡ grid (2 * q) (2 * q) (width q) (numbers q S) ++ rest = rw (← shown-grid S) e in
       rw start
       (grid-put (2 * q) (2 * q) (width q) 0 (numbers q S) (numbers q T) rest p r v hp hr
-      (λ i hi. new i hi ∙ ap (number q) (sym (here i)))
-      (λ p′ r′ i ne. ap (number q) (rows-out p r 1 (λ n. F) S p′ r′ i (λ z. apart r′ (ne z))))
+      (λ i hi. new i hi ∙ ap (number q) (sym (row-here p r F S i)))
+      (λ p′ r′ i ne. ap (number q) (row-there p r F S p′ r′ i ne))
       ∙ (rw (shown-grid T)))
-    where
-      here : (i : ℕ) → withRows q p r 1 (λ n. F) S p r i ≡ F i
-      here i = let z : r ≡ r + 0 = omega arith in ap (λ (k : ℕ). withRows q p r 1 (λ n. F) S p k i) z ∙ rows-in p r 1 (λ n. F) S 0 i (omega arith)
-
-      apart : (r′ : ℕ) → (r′ ≡ r → ⊥) → (r′ < r) ⊎ (r + 1 ≤ r′)
-      apart r′ ne = ⊎-elim (λ (h : r′ < r). inl h) (λ (h : r ≤ r′). inr (⊎-elim (λ (k : r < r′). omega arith) (λ (k : r′ ≤ r). absurd (ne (omega arith))) (lt-or-ge r r′))) (lt-or-ge r′ r)
 
   -- ---- changes one after the other
+
+  -- no change
+  pub turns-none : {before : List ℕ} → Turns q before before (λ S. S)
+  turns-none = record { shows = λ S rest e. e }
 
   -- a change that makes the same cells
   pub turns-same : {before after : List ℕ} {change change′ : Cells q → Cells q}

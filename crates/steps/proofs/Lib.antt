@@ -2,3 +2,5 @@ mod Bytes
 mod Cells
 mod Sizes
 mod RowLaws
+mod Turned
+mod ProductCells

@@ -4,7 +4,7 @@ use mathlib.Core.Path.{_≡_, refl, sym, ap, _∙_}
 use mathlib.Core.List.{List, _++_}
 use mathlib.Core.Logic.{_⊎_, inl, inr, ⊎-elim}
 use Prim.Native.Nat.{ℕ, _+_, _-_, _*_, _%_, _<_, _≤_}
-use native.Mathlib.Nat.{add-assoc}
+use native.Mathlib.Nat.{add-assoc, mod-eq-of-lt}
 use native.Mathlib.Omega.{arith}
 use lib.ListN.{getD}
 use Rattle.algebra.specs.Symbols.{Symbols}
@@ -13,19 +13,23 @@ use Rattle.algebra.proofs.Ring.{add-zero, zero-add, mul-zero}
 use Rattle.algebra.proofs.Polynomials.{shift-add, shift-below}
 use Rattle.lists.specs.Tables.{put}
 use Rattle.lists.proofs.Put.{put-same, put-out, put-put, put-kept, put-parts, put-parts-back}
-use Rattle.symbols.specs.Rule.{Known, symbols, number}
+use Rattle.symbols.specs.Rule.{Known, symbols, Sym, number, symbol}
+use Rattle.symbols.specs.Tables.{productRow}
+use Rattle.symbols.proofs.TableRules.{row-at}
 use Rattle.symbols.proofs.FieldLaws.{laws-of}
-use Rattle.symbols.proofs.Bytes.{number-of-sum}
+use Rattle.symbols.proofs.Bytes.{number-of-sum, size-known}
 use Rattle.published.specs.Start.{width}
 use Rattle.steps.specs.Area.{sumByte, summed, raisedByte, exchangedAbove, exchangedBelow, rowPlace, Cells, shown, Multiplies, withRows, plusMultiple, raisedPlus, rowAdded}
 use Rattle.steps.proofs.Cells.{shown-read, shown-put}
+use Rattle.steps.proofs.Sizes.{sizes}
 
 module _ (q : ℕ) (known : Known q) where
   infixl 65 _⊕_
   infixl 70 _⊗_
   open Symbols (symbols q) using (K, 𝟘, _⊕_, _⊗_)
 
-  plus-is : (a : ℕ → K) (ρ : K) (c : ℕ) (b : ℕ → K) (i : ℕ) → plusMultiple q a ρ c b i ≡ a i ⊕ ρ ⊗ shift (symbols q) q c b i
+  -- a row plus a multiple of a row
+  pub plus-is : (a : ℕ → K) (ρ : K) (c : ℕ) (b : ℕ → K) (i : ℕ) → plusMultiple q a ρ c b i ≡ a i ⊕ ρ ⊗ shift (symbols q) q c b i
   unfolding plusMultiple
   plus-is a ρ c b i = refl
 
@@ -202,3 +206,15 @@ module _ (q : ℕ) (known : Known q) where
               let z : c + k - c ≡ k = omega arith in
               rw (z, byte k (omega arith), product (c + k) (omega arith), raised-above (S p r) ρ c (S p′ r′) k)
               (number-of-sum q known (S p r k) (ρ ⊗ S p′ r′ (c + k)))
+
+-- the table row of a byte multiplies by its symbol
+pub multiplies : (q m : ℕ) → Known q → Multiplies q (productRow q m) (symbol q m)
+multiplies q m known =
+    record {
+      at = λ a.
+        let below : number q a < q * q = laws-of q known .number-below a in
+        let small : q * q ≤ 16 = sizes q known .square-few in
+        rw (mod-eq-of-lt {n = number q a} {m = 16} (omega arith))
+        (row-at q m (number q a) (rw (size-known q known) small) (rw (size-known q known) below)
+        ∙ ap (λ (b : Sym q). number q (symbols q ._⊗_ (symbol q m) b)) (laws-of q known .symbol-number a));
+    }

@@ -9,11 +9,12 @@ use lib.Bits.{bitXor}
 use lib.Dec.{eqb, leb, ltb}
 use lib.ListN.{getD}
 use Rattle.algebra.specs.Symbols.{Symbols}
-use Rattle.algebra.specs.Functions.{shift}
+use Rattle.algebra.specs.Functions.{Fn, shift, timesX, timesYs}
 use Rattle.lists.specs.Tables.{put}
 use Rattle.symbols.specs.Rule.{Known, symbols, number}
 use Rattle.published.specs.Start.{Polynomials, coefficient, width}
 use Rattle.published.specs.Picture.{areaSize, layout}
+use Rattle.steps.specs.declared.products.Part.{Part}
 
 -- ---- the bytes of a row
 
@@ -52,6 +53,21 @@ pub record Area (q n : ℕ) : Type 0 where
 -- where row r of polynomial p starts
 unfoldable pub rowPlace : ℕ → ℕ → ℕ → ℕ
 rowPlace q p r = (p * (2 * q) + r) * width q
+
+-- two parts of polynomials, with no row in common
+pub record Apart (q : ℕ) (to from : Part) : Type 0 where
+  pub to-polynomial : to .polynomial < 2 * q
+  pub to-row : to .row ≤ q
+  pub from-polynomial : from .polynomial < 2 * q
+  pub from-row : from .row ≤ q
+  pub rows : (j k : ℕ) → j < q → k < q → to .polynomial ≡ from .polynomial → to .row + j ≡ from .row + k → ⊥
+
+-- "y^q is rewritten as x^(q+1) + y": the row of a part that row j of y^b times the part comes from, and how far it is moved up
+unfoldable pub sourceRow : ℕ → ℕ → ℕ → ℕ
+sourceRow q b j = elim (leb b j) [ true ↦ j - b | false ↦ j + q - b ]
+
+unfoldable pub sourceShift : ℕ → ℕ → ℕ → ℕ
+sourceShift q b j = elim (leb b j) [ true ↦ 0 | false ↦ q + 1 ]
 
 module _ (q : ℕ) where
   infixl 65 _⊕_
@@ -109,3 +125,30 @@ module _ (q : ℕ) where
   -- n rows of polynomial f become x^c times themselves plus ρ times those of g, and those of g become those of f
   unfoldable pub polynomialsExchanged : ℕ → ℕ → ℕ → K → ℕ → Cells → Cells
   polynomialsExchanged f g c ρ n S = withRows g 0 n (S f) (withRows f 0 n (λ r. raisedPlus (S f r) ρ c (S g r)) S)
+
+  -- a part of a polynomial as a function
+  abbrev pub functionOf : Part → Cells → Fn (symbols q) q
+  functionOf part S j i = S (part .polynomial) (part .row + j) i
+
+  -- row j of a part plus ρ·x^a·y^b times a part
+  unfoldable pub plusProduct : Part → Part → ℕ → ℕ → K → Cells → ℕ → ℕ → K
+  plusProduct to from a b ρ S j i = functionOf to S j i ⊕ ρ ⊗ timesX (symbols q) q a (timesYs (symbols q) q b (functionOf from S)) j i
+
+  -- row j of a part becomes that
+  unfoldable pub productRowAdded : Part → Part → ℕ → ℕ → ℕ → K → Cells → Cells
+  productRowAdded to from j a b ρ S = withRows (to .polynomial) (to .row + j) 1 (λ n. plusProduct to from a b ρ S j) S
+
+  -- the first n rows of a part become that
+  unfoldable pub productAdded : Part → Part → ℕ → ℕ → K → ℕ → Cells → Cells
+  productAdded to from a b ρ n S = withRows (to .polynomial) (to .row) n (plusProduct to from a b ρ S) S
+
+  -- the parts of polynomial p
+  abbrev pub upperOf : ℕ → Part
+  upperOf p = record { polynomial = p; row = 0 }
+
+  abbrev pub lowerOf : ℕ → Part
+  lowerOf p = record { polynomial = p; row = q }
+
+  -- z becomes z + ρ·x^a·y^b in the first n polynomials
+  unfoldable pub replacedZ : ℕ → ℕ → K → ℕ → Cells → Cells
+  replacedZ a b ρ n S p r i = elim (ltb p n) [ true ↦ productAdded (lowerOf p) (upperOf p) a b ρ q S p r i | false ↦ S p r i ]

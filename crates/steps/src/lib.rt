@@ -2,6 +2,7 @@
 use refusals::Refusal;
 
 mod area;
+mod products;
 mod rows;
 
 // What the stop service answers.

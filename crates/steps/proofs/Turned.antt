@@ -1,0 +1,171 @@
+-- The rows of x^a·y^b times a function, as the code finds them: each comes from one row of the function, or from two where
+-- y^q was rewritten as x^(q+1) - y.
+-- Assumes nothing.
+use mathlib.Core.Path.{_≡_, refl, sym, ap, _∙_, subst}
+use mathlib.Core.Bool.{Bool, true, false}
+use mathlib.Core.Logic.{_⊎_, inl, inr, ⊎-elim}
+use Prim.Native.Nat.{ℕ, zero, suc, _+_, _-_, _<_, _≤_}
+use native.Mathlib.Nat.{zero-add, add-zero}
+use native.Mathlib.Omega.{arith}
+use lib.Dec.{leb}
+use borrow.Author.Tests.{le-leb, lt-leb}
+use Rattle.algebra.specs.Symbols.{Symbols, Laws}
+use Rattle.algebra.specs.Functions.{Fn, shift, timesX, timesY, timesYs}
+use Rattle.algebra.proofs.Ring.{sub-self}
+use Rattle.algebra.proofs.Polynomials.{shift-at, shift-below, shift-zero}
+use Rattle.algebra.proofs.Bounds.{timesY-zero, timesY-one, timesY-more}
+use Rattle.lists.proofs.Numbers.{lt-or-ge}
+use Rattle.steps.specs.Area.{sourceRow, sourceShift}
+
+-- row j of y^b times a part comes from row j - b where there is one
+pub source-plain : (q b j : ℕ) → b ≤ j → (sourceRow q b j ≡ j - b) × (sourceShift q b j ≡ 0)
+unfolding sourceRow sourceShift
+source-plain q b j h =
+    (subst (λ (t : Bool). _≡_ {A = ℕ} (elim t [ true ↦ j - b | false ↦ j + q - b ]) (j - b)) (sym (le-leb b j h)) refl,
+    subst (λ (t : Bool). _≡_ {A = ℕ} (elim t [ true ↦ 0 | false ↦ q + 1 ]) 0) (sym (le-leb b j h)) refl)
+
+-- else from the row that y^q brings there, moved up by q + 1
+pub source-turned : (q b j : ℕ) → j < b → (sourceRow q b j ≡ j + q - b) × (sourceShift q b j ≡ q + 1)
+unfolding sourceRow sourceShift
+source-turned q b j h =
+    (subst (λ (t : Bool). _≡_ {A = ℕ} (elim t [ true ↦ j - b | false ↦ j + q - b ]) (j + q - b)) (sym (lt-leb b j h)) refl,
+    subst (λ (t : Bool). _≡_ {A = ℕ} (elim t [ true ↦ 0 | false ↦ q + 1 ]) (q + 1)) (sym (lt-leb b j h)) refl)
+
+module _ (𝓢 : Symbols) (q : ℕ) where
+  infixl 65 _⊖_
+  open Symbols 𝓢 using (K, 𝟘, _⊖_)
+
+  -- x^c times polynomials with equal coefficients
+  pub shift-cong : (c : ℕ) {f g : ℕ → K} (i : ℕ) → ((n : ℕ) → f n ≡ g n) → shift 𝓢 q c f i ≡ shift 𝓢 q c g i
+  shift-cong c {f} {g} i h =
+      ⊎-elim
+      (λ (b : i < c). shift-below 𝓢 q c f i b ∙ sym (shift-below 𝓢 q c g i b))
+      (λ (b : c ≤ i). shift-at 𝓢 q c f i b ∙ h (i - c) ∙ sym (shift-at 𝓢 q c g i b))
+      (lt-or-ge i c)
+
+  -- x^a times x^c times a polynomial
+  pub shift-shift : (a c : ℕ) (f : ℕ → K) (i : ℕ) → shift 𝓢 q a (shift 𝓢 q c f) i ≡ shift 𝓢 q (a + c) f i
+  shift-shift a c f i = ⊎-elim low high (lt-or-ge i a)
+    where
+      low : i < a → shift 𝓢 q a (shift 𝓢 q c f) i ≡ shift 𝓢 q (a + c) f i
+      low h = shift-below 𝓢 q a (shift 𝓢 q c f) i h ∙ sym (shift-below 𝓢 q (a + c) f i (omega arith))
+      high : a ≤ i → shift 𝓢 q a (shift 𝓢 q c f) i ≡ shift 𝓢 q (a + c) f i
+      high h =
+          shift-at 𝓢 q a (shift 𝓢 q c f) i h
+          ∙ ⊎-elim
+          (λ (b : i - a < c). shift-below 𝓢 q c f (i - a) b ∙ sym (shift-below 𝓢 q (a + c) f i (omega arith)))
+          (λ (b : c ≤ i - a). shift-at 𝓢 q c f (i - a) b ∙ ap f (omega arith) ∙ sym (shift-at 𝓢 q (a + c) f i (omega arith)))
+          (lt-or-ge (i - a) c)
+
+  -- x^a times a difference
+  shift-sub : Laws 𝓢 q → (a : ℕ) (f g : ℕ → K) (i : ℕ) → shift 𝓢 q a (λ n. f n ⊖ g n) i ≡ shift 𝓢 q a f i ⊖ shift 𝓢 q a g i
+  shift-sub 𝓛 a f g i =
+      ⊎-elim
+      (λ (h : i < a).
+          shift-below 𝓢 q a (λ n. f n ⊖ g n) i h
+          ∙ sym (ap (λ (y : K). y ⊖ shift 𝓢 q a g i) (shift-below 𝓢 q a f i h) ∙ ap (λ (y : K). 𝟘 ⊖ y) (shift-below 𝓢 q a g i h) ∙ sub-self 𝓛 𝟘))
+      (λ (h : a ≤ i).
+          shift-at 𝓢 q a (λ n. f n ⊖ g n) i h
+          ∙ sym (ap (λ (y : K). y ⊖ shift 𝓢 q a g i) (shift-at 𝓢 q a f i h) ∙ ap (λ (y : K). f (i - a) ⊖ y) (shift-at 𝓢 q a g i h)))
+      (lt-or-ge i a)
+
+  -- y^b times functions that agree in the powers of y below q
+  pub timesYs-cong : (F G : Fn 𝓢 q) → ((j i : ℕ) → j < q → F j i ≡ G j i) → (b j i : ℕ) → j < q → timesYs 𝓢 q b F j i ≡ timesYs 𝓢 q b G j i
+  unfolding timesYs timesY
+  timesYs-cong F G h zero j i k = h j i k
+  timesYs-cong F G h (suc b) zero i k = shift-cong (q + 1) i (λ n. timesYs-cong F G h b (q - 1) n (omega arith))
+  timesYs-cong F G h (suc b) (suc zero) i k =
+      ap (λ (y : K). y ⊖ timesYs 𝓢 q b F (q - 1) i) (timesYs-cong F G h b 0 i (omega arith))
+      ∙ ap (λ (y : K). timesYs 𝓢 q b G 0 i ⊖ y) (timesYs-cong F G h b (q - 1) i (omega arith))
+  timesYs-cong F G h (suc b) (suc (suc j)) i k = timesYs-cong F G h b (suc j) i (omega arith)
+
+  -- y^0 and y^(b+1)
+  timesYs-zero : (F : Fn 𝓢 q) (j i : ℕ) → timesYs 𝓢 q 0 F j i ≡ F j i
+  unfolding timesYs
+  timesYs-zero F j i = refl
+
+  timesYs-suc : (F : Fn 𝓢 q) (b j i : ℕ) → timesYs 𝓢 q (suc b) F j i ≡ timesY 𝓢 q (timesYs 𝓢 q b F) j i
+  unfolding timesYs
+  timesYs-suc F b j i = refl
+
+  module _ (F : Fn 𝓢 q) where
+    -- what comes from the one row
+    main : ℕ → ℕ → ℕ → K
+    main b j i = shift 𝓢 q (sourceShift q b j) (F (sourceRow q b j)) i
+
+    main-plain : (b j i : ℕ) → b ≤ j → main b j i ≡ F (j - b) i
+    unfolding main
+    main-plain b j i h =
+        let s = source-plain q b j h in
+        ap (λ (n : ℕ). shift 𝓢 q n (F (sourceRow q b j)) i) (s .1) ∙ shift-zero 𝓢 q (F (sourceRow q b j)) i ∙ ap (λ (n : ℕ). F n i) (s .0)
+
+    main-turned : (b j i : ℕ) → j < b → main b j i ≡ shift 𝓢 q (q + 1) (F (j + q - b)) i
+    unfolding main
+    main-turned b j i h =
+        let s = source-turned q b j h in
+        ap (λ (n : ℕ). shift 𝓢 q n (F (sourceRow q b j)) i) (s .1) ∙ ap (λ (n : ℕ). shift 𝓢 q (q + 1) (F n) i) (s .0)
+
+    -- one more power of y moves it one row on
+    main-suc : (b j i : ℕ) → main (suc b) (suc j) i ≡ main b j i
+    main-suc b j i =
+        ⊎-elim
+        (λ (h : j < b).
+            main-turned (suc b) (suc j) i (omega arith)
+            ∙ ap (λ (n : ℕ). shift 𝓢 q (q + 1) (F n) i) (omega arith)
+            ∙ sym (main-turned b j i h))
+        (λ (h : b ≤ j).
+            main-plain (suc b) (suc j) i (omega arith)
+            ∙ ap (λ (n : ℕ). F n i) (omega arith)
+            ∙ sym (main-plain b j i h))
+        (lt-or-ge j b)
+
+    -- a row of y^b·F that no y came round to
+    plain : (b j i : ℕ) → b < q → j < q → (j ≡ 0) ⊎ (b < j) → timesYs 𝓢 q b F j i ≡ main b j i
+    plain zero j i hb hj o = timesYs-zero F j i ∙ sym (main-plain 0 j i (omega arith) ∙ ap (λ (n : ℕ). F n i) (omega arith))
+    plain (suc b) zero i hb hj o =
+        timesYs-suc F b 0 i
+        ∙ timesY-zero 𝓢 q (timesYs 𝓢 q b F) i
+        ∙ shift-cong (q + 1) i
+            (λ n. plain b (q - 1) n (omega arith) (omega arith) (inr (omega arith))
+            ∙ main-plain b (q - 1) n (omega arith)
+            ∙ ap (λ (m : ℕ). F m n) {x = q - 1 - b} {y = 0 + q - suc b} (omega arith))
+        ∙ sym (main-turned (suc b) 0 i (omega arith))
+    plain (suc b) (suc zero) i hb hj o = absurd (⊎-elim (λ (e : 1 ≡ 0). omega arith) (λ (h : suc b < 1). omega arith) o)
+    plain (suc b) (suc (suc j)) i hb hj o =
+        timesYs-suc F b (suc (suc j)) i
+        ∙ timesY-more 𝓢 q (timesYs 𝓢 q b F) j i
+        ∙ plain b (suc j) i (omega arith) (omega arith) (inr (⊎-elim (λ (e : suc (suc j) ≡ 0). absurd (omega arith)) (λ (h : suc b < suc (suc j)). omega arith) o))
+        ∙ sym (main-suc b (suc j) i)
+
+    -- a row to which a y came round
+    round : (b j i : ℕ) → b < q → 0 < j → j ≤ b → timesYs 𝓢 q b F j i ≡ main b j i ⊖ F (j + q - b - 1) i
+    round zero j i hb hj h = absurd (omega arith)
+    round (suc b) zero i hb hj h = absurd (omega arith)
+    round (suc b) (suc zero) i hb hj h =
+        timesYs-suc F b 1 i
+        ∙ timesY-one 𝓢 q (timesYs 𝓢 q b F) i
+        ∙ ap (λ (y : K). y ⊖ timesYs 𝓢 q b F (q - 1) i) (plain b 0 i (omega arith) (omega arith) (inl refl) ∙ sym (main-suc b 0 i))
+        ∙ ap (λ (y : K). main (suc b) 1 i ⊖ y)
+            (plain b (q - 1) i (omega arith) (omega arith) (inr (omega arith)) ∙ main-plain b (q - 1) i (omega arith) ∙ ap (λ (n : ℕ). F n i) (omega arith))
+    round (suc b) (suc (suc j)) i hb hj h =
+        timesYs-suc F b (suc (suc j)) i
+        ∙ timesY-more 𝓢 q (timesYs 𝓢 q b F) j i
+        ∙ round b (suc j) i (omega arith) (omega arith) (omega arith)
+        ∙ ap (λ (y : K). y ⊖ F (suc j + q - b - 1) i) (sym (main-suc b (suc j) i))
+        ∙ ap (λ (n : ℕ). main (suc b) (suc (suc j)) i ⊖ F n i) (omega arith)
+
+    -- the same with x^a
+    pub product-plain : (a b j i : ℕ) → b < q → j < q → (j ≡ 0) ⊎ (b < j)
+        → timesX 𝓢 q a (timesYs 𝓢 q b F) j i ≡ shift 𝓢 q (a + sourceShift q b j) (F (sourceRow q b j)) i
+    unfolding timesX main
+    product-plain a b j i hb hj o =
+        shift-cong a i (λ n. plain b j n hb hj o) ∙ shift-shift a (sourceShift q b j) (F (sourceRow q b j)) i
+
+    pub product-round : Laws 𝓢 q → (a b j i : ℕ) → b < q → 0 < j → j ≤ b
+        → timesX 𝓢 q a (timesYs 𝓢 q b F) j i
+        ≡ shift 𝓢 q (a + sourceShift q b j) (F (sourceRow q b j)) i ⊖ shift 𝓢 q a (F (j + q - b - 1)) i
+    unfolding timesX main
+    product-round 𝓛 a b j i hb hj h =
+        shift-cong a i (λ n. round b j n hb hj h)
+        ∙ shift-sub 𝓛 a (main b j) (F (j + q - b - 1)) i
+        ∙ ap (λ (y : K). y ⊖ shift 𝓢 q a (F (j + q - b - 1)) i) (shift-shift a (sourceShift q b j) (F (sourceRow q b j)) i)

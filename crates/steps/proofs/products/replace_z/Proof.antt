@@ -1,0 +1,75 @@
+-- Each turn replaces z in one polynomial more.
+-- Assumes nothing.
+use mathlib.Core.Path.{_≡_}
+use Prim.Native.Nat.{_+_, _-_, _*_, _≤_}
+use native.Mathlib.Omega.{arith}
+use lib.ListN.{length}
+use Rattle.symbols.specs.Rule.{symbol}
+use Rattle.steps.specs.Area.{Turns, replacedZ}
+use Rattle.steps.proofs.Cells.{still, turns-none, turns-same, turns-both}
+use Rattle.steps.proofs.RowLaws.{multiplies}
+use Rattle.steps.proofs.ProductCells.{parts-apart, replaced-none, replaced-more}
+use borrow.Author.Needs.{needs}
+use Rattle.steps.proofs.products.replace_z.Statement.{statement}
+use Rattle.steps.proofs.products.replace_z.Tie as tie
+use Rattle.steps.proofs.products.replace_z.Reads as reads
+use Rattle.steps.proofs.products.replace_z.Lts as lts
+use Rattle.steps.proofs.products.add_product.Reads as add-product-reads
+use Rattle.symbols.proofs.products_of.Reads as products-of-reads
+
+abbrev Inv-loop : tie.InvT-loop
+Inv-loop work₀ q a b m products p₀ p-end work p = (p ≤ 2 * q) × (length work ≡ length work₀) × Turns q work₀ work (replacedZ q a b (symbol q m) p)
+
+abbrev μ-loop : tie.MeasureT-loop
+μ-loop work₀ q a b m products p₀ p-end work p = 2 * q - p
+
+products-of-requires : tie.Need-products-of-requires Inv-loop μ-loop
+products-of-requires c κs = search needs
+
+mul-p-end : tie.Need-mul-p-end Inv-loop μ-loop
+mul-p-end c = search needs
+
+loop-holds : tie.Need-loop-holds Inv-loop μ-loop
+loop-holds c =
+    (search needs, search needs, turns-same _ (λ S p r i hp hr hi. replaced-none _ (c .before .before .pre .0 .known) _ _ _ S p r i) (turns-none _))
+
+add-product-requires : tie.Need-add-product-requires Inv-loop μ-loop
+add-product-requires c κs =
+    let s = c .before .before .before .before .before in
+    (still (s .pre .0) (c .before .before .loop .inv .1), (parts-apart _ (s .pre .0 .known) _ (c .before .loop-test .taken), s .pre .1))
+
+add-p : tie.Need-add-p Inv-loop μ-loop
+add-p c = search needs
+
+loop-less : tie.Need-loop-less Inv-loop μ-loop
+loop-less c = search needs
+
+loop-again : tie.Need-loop-again Inv-loop μ-loop
+loop-again c =
+    let s = c .before .before .before .before .before .before .before .before in
+    (search needs, search needs, turns-same _ (λ S p r i hp hr hi. replaced-more _ (s .pre .0 .known) _ _ _ _ S p r i)
+    (turns-both _ (c .before .before .before .before .before .loop .inv .2) (c .before .before .add-product .ensures (symbol _ (s .args .m)) (rw (c .before .before .before .before .before .before .products-of .ensures) (multiplies _ _ (s .pre .0 .known))))))
+
+same-length : tie.Need-same-length Inv-loop μ-loop
+same-length c = search needs
+
+returns : tie.Need-returns Inv-loop μ-loop
+returns c =
+    let p : c .before .loop .p ≡ 2 * c .before .before .before .before .args .q = omega arith in
+    rw p at (c .before .loop .inv .2)
+
+pub replace-z-spec : {M : Type 1} → statement M
+replace-z-spec =
+    tie.close
+    (tie.spec
+    Inv-loop
+    μ-loop
+    products-of-requires
+    mul-p-end
+    loop-holds
+    add-product-requires
+    add-p
+    loop-less
+    loop-again
+    same-length
+    returns)

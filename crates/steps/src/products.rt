@@ -1,0 +1,94 @@
+// Products by monomials: ρ·x^a·y^b times one part of a polynomial added to another part, and the substitution for z.
+use crate::area;
+ghost use mathlib.Core.Path.{_≡_};
+ghost use mathlib.Core.Logic.{_⊎_};
+ghost use Prim.Native.Nat.{_+_, _*_, _<_, _≤_};
+ghost use lib.ListN.{length};
+ghost use Rattle.symbols.specs.Rule.{Sym, symbol};
+ghost use Rattle.steps.specs.Area.{Area, Apart, Turns, Multiplies, sourceRow, sourceShift, productRowAdded, productAdded, replacedZ};
+
+// A part of a polynomial: its q rows from `row` on.
+pub struct Part {
+    pub polynomial: usize,
+    pub row: usize,
+}
+
+// The row that row j of y^b times a part comes from, and how far it is moved up.
+struct Source {
+    row: usize,
+    shift: usize,
+}
+
+// y^q is rewritten as x^(q+1) + y; this is the row that comes by the first, or unchanged.
+fn source_of(q: usize, b: usize, j: usize) -> Source
+    requires { ⌜ (q ≤ 4) × (b < q) × (j < q) ⌝ }
+    ensures { λ r. ⌜ (r .row ≡ sourceRow q b j) × (r .shift ≡ sourceShift q b j) × (r .row < q) × (r .shift ≤ q + 1) ⌝ }
+{
+    if b <= j {
+        return Source {
+            row: j - b,
+            shift: 0,
+        };
+    }
+    Source {
+        row: j + q - b,
+        shift: q + 1,
+    }
+}
+
+// Adds to row j of one part that of x^a·y^b times another part, times what `products` is the table row of.
+fn add_product_row(work: &mut [u8], q: usize, to: Part, from: Part, j: usize, a: usize, b: usize, products: [u8; 16])
+    requires { ⌜ Area q (length (now work)) ⌝ }
+    requires { ⌜ Apart q to from ⌝ }
+    requires { ⌜ (j < q) × (b < q) × (a ≤ 1000) ⌝ }
+    ensures { λ _. ⌜ ((ρ : Sym q) → Multiplies q products ρ → Turns q (now (work .entry)) (now (work .exit)) (productRowAdded q to from j a b ρ)) ⌝ }
+{
+    let source = source_of(q, b, j);
+    let row = source.row;
+    let shift = source.shift;
+    let p = to.polynomial;
+    let at = to.row + j;
+    let p2 = from.polynomial;
+    let start = from.row;
+    area::add_row(work, q, p, at, p2, start + row, a + shift, products);
+    if j == 0 {
+        return;
+    }
+    if b < j {
+        return;
+    }
+    // the y of x^(q+1) + y comes round to this row too
+    area::add_row(work, q, p, at, p2, start + (j + q - b - 1), a, products);
+}
+
+// The same in all rows of the part.
+pub fn add_product(work: &mut [u8], q: usize, to: Part, from: Part, a: usize, b: usize, products: [u8; 16])
+    requires { ⌜ Area q (length (now work)) ⌝ }
+    requires { ⌜ Apart q to from ⌝ }
+    requires { ⌜ (b < q) × (a ≤ 1000) ⌝ }
+    ensures { λ _. ⌜ ((ρ : Sym q) → Multiplies q products ρ → Turns q (now (work .entry)) (now (work .exit)) (productAdded q to from a b ρ q)) ⌝ }
+{
+    for j in 0..q {
+        add_product_row(work, q, to, from, j, a, b, products);
+    }
+}
+
+// z becomes z + m·x^a·y^b in all 2q polynomials.
+pub fn replace_z(work: &mut [u8], q: usize, a: usize, b: usize, m: u8)
+    requires { ⌜ Area q (length (now work)) ⌝ }
+    requires { ⌜ (b < q) × (a ≤ 1000) ⌝ }
+    ensures { λ _. ⌜ Turns q (now (work .entry)) (now (work .exit)) (replacedZ q a b (symbol q m) (2 * q)) ⌝ }
+{
+    let products = symbols::products_of(q, m);
+    for p in 0..2 * q {
+        let upper = Part {
+            polynomial: p,
+            row: 0,
+        };
+        let lower = Part {
+            polynomial: p,
+            row: q,
+        };
+        add_product(work, q, lower, upper, a, b, products);
+    }
+}
