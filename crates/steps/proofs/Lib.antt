@@ -4,3 +4,4 @@ mod Sizes
 mod RowLaws
 mod Turned
 mod ProductCells
+mod UpdateCells

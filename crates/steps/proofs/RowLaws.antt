@@ -43,7 +43,8 @@ module _ (q : ℕ) (known : Known q) where
       ∙ ap (λ (y : K). a i ⊕ ρ ⊗ y) (shift-below (symbols q) q c b i h)
       ∙ simp (mul-zero (laws-of q known), add-zero (laws-of q known))
 
-  raised-is : (a : ℕ → K) (ρ : K) (c : ℕ) (b : ℕ → K) (i : ℕ) → raisedPlus q a ρ c b i ≡ shift (symbols q) q c a i ⊕ ρ ⊗ b i
+  -- x^c times a row plus a multiple of a row
+  pub raised-is : (a : ℕ → K) (ρ : K) (c : ℕ) (b : ℕ → K) (i : ℕ) → raisedPlus q a ρ c b i ≡ shift (symbols q) q c a i ⊕ ρ ⊗ b i
   unfolding raisedPlus
   raised-is a ρ c b i = refl
 

@@ -4,6 +4,7 @@ use refusals::Refusal;
 mod area;
 mod products;
 mod rows;
+mod update;
 
 // What the stop service answers.
 pub enum Stopped {
