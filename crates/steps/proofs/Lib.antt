@@ -5,3 +5,4 @@ mod RowLaws
 mod Turned
 mod ProductCells
 mod UpdateCells
+mod Degrees

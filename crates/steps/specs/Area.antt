@@ -13,7 +13,9 @@ use Rattle.algebra.specs.Functions.{Fn, shift, timesX, timesYs}
 use Rattle.lists.specs.Tables.{put}
 use Rattle.symbols.specs.Rule.{Known, symbols, number}
 use Rattle.published.specs.Start.{Polynomials, coefficient, width}
+use Rattle.published.specs.Pairing.{degree}
 use Rattle.published.specs.Picture.{areaSize, layout}
+use Rattle.steps.specs.declared.reading.Leading.{Leading}
 use Rattle.steps.specs.declared.products.Part.{Part}
 
 -- ---- the bytes of a row
@@ -89,6 +91,15 @@ module _ (q : ℕ) where
   unfoldable pub shown : Cells → List ℕ
   shown S = layout q (numbers S)
 
+  -- bytes that start with the cells S
+  pub record Starts (l : List ℕ) (S : Cells) : Type 0 where
+    pub rest : List ℕ
+    pub is : l ≡ shown S ++ rest
+
+  -- no symbol but zero past the width
+  pub record Narrow (S : Cells) : Type 0 where
+    pub past : (p r i : ℕ) → width q ≤ i → S p r i ≡ 𝟘
+
   -- bytes that start with the cells S start after the code with the cells `change S`, and what comes after them stays
   pub record Turns (before after : List ℕ) (change : Cells → Cells) : Type 0 where
     pub shows : (S : Cells) (rest : List ℕ) → before ≡ shown S ++ rest → after ≡ shown (change S) ++ rest
@@ -152,3 +163,8 @@ module _ (q : ℕ) where
   -- z becomes z + ρ·x^a·y^b in the first n polynomials
   unfoldable pub replacedZ : ℕ → ℕ → K → ℕ → Cells → Cells
   replacedZ a b ρ n S p r i = elim (ltb p n) [ true ↦ productAdded (lowerOf p) (upperOf p) a b ρ q S p r i | false ↦ S p r i ]
+
+  -- the degree of a row, and the symbol there
+  pub record LeadingOf (lead : Leading) (row : ℕ → K) : Type 0 where
+    pub degree-is : lead .degree ≡ degree (λ i. number q (row i)) (width q)
+    pub coefficient-is : lead .coefficient ≡ number q (row (lead .degree))

@@ -3,6 +3,7 @@ use refusals::Refusal;
 
 mod area;
 mod products;
+mod reading;
 mod rows;
 mod update;
 
