@@ -1,6 +1,6 @@
 -- A list with a run of its places replaced: its length, what stands where, and how runs and stores follow one another.
 -- Assumes nothing.
-use mathlib.Core.Path.{_≡_, refl, ap, sym, _∙_}
+use mathlib.Core.Path.{_≡_, refl, ap, sym, _∙_, subst}
 use mathlib.Core.Logic.{_⊎_, inl, inr, ⊎-elim}
 use mathlib.Core.List.{List, _++_}
 use Prim.Native.Nat.{ℕ, zero, suc, _+_, _-_, _≤_, _<_}
@@ -116,3 +116,14 @@ module _ {ℓ} {A : Type ℓ} where
           ∙ getD-drop n l (k - n) d
           ∙ ap (λ (i : ℕ). getD l i d) (omega arith)))
           (lt-or-ge k n)
+
+-- what holds of the elements below i holds of one more after a store there
+pub set-holds : {A : Type 0} (Q : ℕ → A → Type 0) (l : List A) (i : ℕ) (a d : A) → i < length l → ((j : ℕ) → j < i → Q j (getD l j d)) → Q i a
+    → (j : ℕ) → j < i + 1 → Q j (getD (set l i a) j d)
+set-holds {A} Q l i a d h old new j k =
+    ⊎-elim
+    (λ (b : j < i). subst (Q j) (sym (getD-set-other l i j a d (λ e. omega arith))) (old j b))
+    (λ (b : i ≤ j).
+        let e : i ≡ j = omega arith in
+        subst (λ (n : ℕ). Q n (getD (set l i a) n d)) e (subst (Q i) (sym (getD-set-same l i a d h)) new))
+    (lt-or-ge j i)

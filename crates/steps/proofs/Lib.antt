@@ -6,3 +6,6 @@ mod Turned
 mod ProductCells
 mod UpdateCells
 mod Degrees
+mod Signed
+mod Coefficients
+mod PairNumbers

@@ -2,6 +2,7 @@
 use refusals::Refusal;
 
 mod area;
+mod pairs;
 mod products;
 mod reading;
 mod rows;

@@ -1,0 +1,188 @@
+-- Each of the three ways out gives the numbers of the pairing.
+-- Assumes nothing.
+use mathlib.Core.Path.{_≡_, refl, sym, ap, _∙_}
+use Prim.Native.Nat.{ℕ, _+_, _*_, _%_, _<_, _≤_}
+use native.Mathlib.Nat.{mul-le-mul}
+use native.Mathlib.Omega.{arith}
+use lib.IntN.{ℤ, pos, _-ℤ_, natAbs}
+use mir.Syntax.{w64}
+use mir.Val.{toZ, ofZ}
+use Rattle.symbols.specs.Rule.{Known, symbols, symbol, number}
+use Rattle.symbols.proofs.FieldLaws.{laws-of}
+use Rattle.published.specs.Pairing.{kOf, leadF, positivePart}
+use Rattle.steps.specs.Area.{Area, cellsOf}
+use Rattle.steps.specs.Pairs.{Held}
+use Rattle.steps.proofs.Signed.{Divided, divided, k-small, back, less-small, less-fits, less-value, negative-yes, negative-no, cast-fits}
+use Rattle.steps.proofs.PairNumbers.{lead-f, quotient-is, pair-negative, pair-voted, pair-plain}
+use borrow.Author.Needs.{needs}
+use Rattle.steps.proofs.pairs.pair_of.Statement.{statement}
+use Rattle.steps.proofs.pairs.pair_of.Tie as tie
+use Rattle.steps.proofs.pairs.pair_of.Reads as reads
+use Rattle.steps.proofs.pairs.pair_of.Lts as lts
+use Rattle.steps.proofs.pairs.quotient_of.Reads as quotient-of-reads
+use Rattle.steps.proofs.reading.coefficient_at.Reads as coefficient-at-reads
+use Rattle.steps.proofs.reading.leading_of.Reads as leading-of-reads
+use Rattle.symbols.proofs.inverse.Reads as inverse-reads
+use Rattle.symbols.proofs.product.Reads as product-reads
+
+-- the sum that is divided
+abbrev total : tie.After-leading-of → ℕ
+total c = let s = c .before .before in s .args .q * c .leading-of .result .degree + (s .args .q + 1) * s .args .i + s .args .s
+
+-- how large its parts are
+record Small (q a i s : ℕ) : Type 0 where
+  first : q * a ≤ 4 * 23
+  second : (q + 1) * i ≤ 5 * 4
+  all : q * a + (q + 1) * i + s ≤ 1000
+
+small : (c : tie.After-leading-of) → let s = c .before .before in Small (s .args .q) (c .leading-of .result .degree) (s .args .i) (s .args .s)
+small c =
+    let s = c .before .before in
+    let first = mul-le-mul {n₁ = s .args .q} {m₁ = c .leading-of .result .degree} {n₂ = 4} {m₂ = 23} (omega (arith, s .pre .0 .few)) (omega (arith, s .pre .0 .narrow, c .leading-of .ensures .0)) in
+    let second = mul-le-mul {n₁ = s .args .q + 1} {m₁ = s .args .i} {n₂ = 5} {m₂ = 4} (omega (arith, s .pre .0 .few)) (omega (arith, s .pre .0 .few)) in
+    record { first = first; second = second; all = omega arith }
+
+parts : (c : tie.After-leading-of) → Divided (c .before .before .args .q) (total c)
+parts c = divided _ _ (c .before .before .pre .0 .known) (small c .all)
+
+-- k is the definition's, and small
+module _ (c : tie.After-leading-of2) where
+  abbrev k : ℤ
+  k = c .before .quotient-of .result
+
+  abbrev kIs : ℤ
+  kIs = kOf (c .before .before .before .before .args .q) (total (c .before .before))
+
+  low : natAbs k ≤ 1000
+  low = rw (c .before .quotient-of .ensures) (k-small _ _ (parts (c .before .before)))
+
+  degree : c .leading-of2 .result .degree ≤ 1000
+  degree = omega (arith, c .before .before .before .before .pre .0 .narrow, c .leading-of2 .ensures .0)
+
+  c-is : toZ w64 (ofZ w64 (toZ w64 (c .leading-of2 .result .degree) -ℤ toZ w64 (ofZ w64 k))) ≡ pos (c .leading-of2 .result .degree) -ℤ kIs
+  c-is = less-value _ k degree low ∙ ap (λ (z : ℤ). pos (c .leading-of2 .result .degree) -ℤ z) (c .before .quotient-of .ensures)
+
+  c-small : natAbs (toZ w64 (ofZ w64 (toZ w64 (c .leading-of2 .result .degree) -ℤ toZ w64 (ofZ w64 k)))) ≤ 2000
+  c-small = rw (less-value _ k degree low) (less-small _ k degree low)
+
+  k-is : toZ w64 (ofZ w64 k) ≡ kIs
+  k-is = back 0 k (omega arith) low ∙ c .before .quotient-of .ensures
+
+add-leading-of : tie.Need-add-leading-of
+add-leading-of c = search needs
+
+leading-of-requires : tie.Need-leading-of-requires
+leading-of-requires c κs = search needs
+
+mul-total : tie.Need-mul-total
+mul-total c = omega (arith, small c)
+
+add-total : tie.Need-add-total
+add-total c = search needs
+
+mul-total-2 : tie.Need-mul-total-2
+mul-total-2 c = omega (arith, small c)
+
+add-total-2 : tie.Need-add-total-2
+add-total-2 c = omega (arith, small c)
+
+add-total-3 : tie.Need-add-total-3
+add-total-3 c = omega (arith, small c)
+
+rem-partner : tie.Need-rem-partner
+rem-partner c = search needs
+
+quotient-of-requires : tie.Need-quotient-of-requires
+quotient-of-requires c κs = (c .before .before .pre .0 .known, small c .all)
+
+add-leading-of-2 : tie.Need-add-leading-of-2
+add-leading-of-2 c = omega (arith, parts (c .before))
+
+leading-of-requires-2 : tie.Need-leading-of-requires-2
+leading-of-requires-2 c κs = (c .before .before .before .pre .0, omega (arith, parts (c .before)))
+
+cast-c : tie.Need-cast-c
+cast-c c = search needs
+
+sub-c : tie.Need-sub-c
+sub-c c = less-fits _ (k c) (degree c) (low c)
+
+returns : tie.Need-returns
+returns c =
+    let d = c .before in
+    let s = c .before .before .before .before .before in
+    (record { partner = parts (d .before .before) .part; c = c-small d },
+    λ S u narrow z v.
+        pair-negative _ (s .pre .0 .known) S u _ _ (c .before .before .before .leading-of .result) (c .before .leading-of2 .result) (c .before .before .before .leading-of .ensures .1 (cellsOf _ S) z) (c .before .leading-of2 .ensures .1 (cellsOf _ S) z)
+        _ refl (c-is d) refl (negative-yes (kIs d) (rw (k-is d) at (c .if1 .taken))) refl refl)
+
+add-coefficient-at : tie.Need-add-coefficient-at
+add-coefficient-at c = search needs
+
+add-coefficient-at-2 : tie.Need-add-coefficient-at-2
+add-coefficient-at-2 c = omega (arith, parts (c .before .before .before))
+
+cast-coefficient-at : tie.Need-cast-coefficient-at
+cast-coefficient-at c =
+    let d = c .before in
+    rw (k-is d) (cast-fits (kIs d) (omega (arith, k-small _ _ (parts (d .before .before)))) (negative-no (kIs d) (rw (k-is d) at (c .if1 .left)) .1))
+
+coefficient-at-requires : tie.Need-coefficient-at-requires
+coefficient-at-requires c κs = (c .before .before .before .before .before .pre .0, omega (arith, parts (c .before .before .before)))
+
+inverse-requires : tie.Need-inverse-requires
+inverse-requires c κs = search needs
+
+product-requires : tie.Need-product-requires
+product-requires c κs = search needs
+
+returns-2 : tie.Need-returns-2
+returns-2 c =
+    let d = c .before .before .before .before .before in
+    let s = c .before .before .before .before .before .before .before .before .before in
+    let n = negative-no (kIs d) (rw (k-is d) at (c .before .before .before .before .if1 .left)) in
+    (record { partner = parts (d .before .before) .part; c = c-small d },
+    λ S u narrow z v.
+        let lead = c .before .before .before .before .before .before .before .leading-of .ensures .1 (cellsOf _ S) z in
+        let read = rw (k-is d, n .1) at (c .before .before .before .coefficient-at .ensures (cellsOf _ S) narrow z) in
+        pair-voted _ (s .pre .0 .known) S u _ _ (c .before .before .before .before .before .before .before .leading-of .result) (c .before .before .before .before .before .leading-of2 .result) lead (c .before .before .before .before .before .leading-of2 .ensures .1 (cellsOf _ S) z)
+        _ refl (c-is d) refl (n .0) (v ∙ c .before .before .if2 .taken)
+        (quotient-is _ (s .pre .0 .known) _ _ _ _ _ _ read (lead-f _ S _ _ lead) (c .before .inverse .ensures) (c .product .ensures)) refl)
+
+returns-3 : tie.Need-returns-3
+returns-3 c =
+    let d = c .before .before .before in
+    let s = c .before .before .before .before .before .before .before in
+    let n = negative-no (kIs d) (rw (k-is d) at (c .before .before .if1 .left)) in
+    (record { partner = parts (d .before .before) .part; c = c-small d },
+    λ S u narrow z v.
+        pair-plain _ (s .pre .0 .known) S u _ _ (c .before .before .before .before .before .leading-of .result) (c .before .before .before .leading-of2 .result) (c .before .before .before .before .before .leading-of .ensures .1 (cellsOf _ S) z) (c .before .before .before .leading-of2 .ensures .1 (cellsOf _ S) z)
+        _ refl (c-is d) refl (n .0) (v ∙ c .if2 .left)
+        (rw (k-is d, n .1) at (c .before .coefficient-at .ensures (cellsOf _ S) narrow z)) refl)
+
+pub pair-of-spec : {M : Type 1} → statement M
+pair-of-spec =
+    tie.close
+    (tie.spec
+    add-leading-of
+    leading-of-requires
+    mul-total
+    add-total
+    mul-total-2
+    add-total-2
+    add-total-3
+    rem-partner
+    quotient-of-requires
+    add-leading-of-2
+    leading-of-requires-2
+    cast-c
+    sub-c
+    returns
+    add-coefficient-at
+    add-coefficient-at-2
+    cast-coefficient-at
+    coefficient-at-requires
+    inverse-requires
+    product-requires
+    returns-2
+    returns-3)
