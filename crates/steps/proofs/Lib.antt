@@ -9,3 +9,4 @@ mod Degrees
 mod Signed
 mod Coefficients
 mod PairNumbers
+mod VoteLaws

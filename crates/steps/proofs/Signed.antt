@@ -125,18 +125,15 @@ module _ (q total : ℕ) (d : Divided q total) where
       go true = omega arith
       go false = omega arith
 
+-- a small integer fits, and its bits are it again
+pub small-fits : (z : ℤ) → natAbs z ≤ 2000 → SFits w64 z
+small-fits (pos n) h = record { sfits = omega arith }
+small-fits (negsuc n) h = record { sfits = omega arith }
+
+pub back : (z : ℤ) → natAbs z ≤ 2000 → toZ w64 (ofZ w64 z) ≡ z
+back z h = toZ-ofZ w64 z (small-fits z h)
+
 module _ (d : ℕ) (z : ℤ) (hd : d ≤ 1000) (hz : natAbs z ≤ 1000) where
-  -- a small integer fits, and its bits are it again
-  pub small-fits : SFits w64 z
-  small-fits = go z hz
-    where
-      go : (y : ℤ) → natAbs y ≤ 1000 → SFits w64 y
-      go (pos n) h = record { sfits = omega arith }
-      go (negsuc n) h = record { sfits = omega arith }
-
-  pub back : toZ w64 (ofZ w64 z) ≡ z
-  back = toZ-ofZ w64 z small-fits
-
   -- a number less a small integer is small
   pub less-small : natAbs (pos d -ℤ z) ≤ 2000
   unfolding difference
@@ -152,14 +149,10 @@ module _ (d : ℕ) (z : ℤ) (hd : d ≤ 1000) (hz : natAbs z ≤ 1000) where
 
   -- so the code's difference fits, and it is the integer
   pub less-fits : SFits w64 (toZ w64 d -ℤ toZ w64 (ofZ w64 z))
-  less-fits = rw (plain d (omega arith), back) (go (pos d -ℤ z) less-small)
-    where
-      go : (y : ℤ) → natAbs y ≤ 2000 → SFits w64 y
-      go (pos n) h = record { sfits = omega arith }
-      go (negsuc n) h = record { sfits = omega arith }
+  less-fits = rw (plain d (omega arith), back z (omega arith)) (small-fits (pos d -ℤ z) less-small)
 
   pub less-value : toZ w64 (ofZ w64 (toZ w64 d -ℤ toZ w64 (ofZ w64 z))) ≡ pos d -ℤ z
-  less-value = toZ-ofZ w64 _ less-fits ∙ (rw (plain d (omega arith), back))
+  less-value = toZ-ofZ w64 _ less-fits ∙ (rw (plain d (omega arith), back z (omega arith)))
 
 -- the sign of an integer, as the code's test tells it
 pub negative-yes : (z : ℤ) → ltZ z (pos 0) ≡ true → isNegative z ≡ true
@@ -177,3 +170,27 @@ pub cast-fits : (z : ℤ) → natAbs z ≤ 2000 → z ≡ pos (positivePart z) �
 unfolding positivePart
 cast-fits (pos n) h e = (tt, omega arith)
 cast-fits (negsuc n) h e = let y : _≡_ {A = ℕ} 0 1 = cc in absurd (omega arith)
+
+-- c's sign picks the update: c itself is the shift where it is positive
+pub positive-yes : (z : ℤ) → ltZ (pos 0) z ≡ true → (z ≡ pos (positivePart z)) × (ltb 0 (positivePart z) ≡ true)
+unfolding positivePart
+positive-yes (pos n) t = (refl, t)
+positive-yes (negsuc n) t = let z : _≡_ {A = ℕ} 0 1 = cc in absurd (omega arith)
+
+-- and -c where it is not
+pub record Unraised (z : ℤ) : Type 0 where
+  pub none : positivePart z ≡ 0
+  pub shift : pos 0 -ℤ z ≡ pos (negativePart z)
+  pub small : negativePart z ≤ natAbs z
+
+pub positive-no : (z : ℤ) → ltZ (pos 0) z ≡ false → Unraised z
+unfolding positivePart negativePart
+positive-no (pos zero) t = record { none = refl; shift = refl; small = omega arith }
+positive-no (pos (suc n)) t = absurd (omega (arith, ltb-false 0 (suc n) t))
+positive-no (negsuc n) t = record { none = refl; shift = ap pos (omega arith); small = omega arith }
+
+-- a positive part is no larger
+pub positive-small : (z : ℤ) → positivePart z ≤ natAbs z
+unfolding positivePart
+positive-small (pos n) = omega arith
+positive-small (negsuc n) = omega arith

@@ -7,6 +7,7 @@ mod products;
 mod reading;
 mod rows;
 mod update;
+mod votes;
 
 // What the stop service answers.
 pub enum Stopped {

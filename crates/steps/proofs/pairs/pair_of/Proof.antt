@@ -66,7 +66,7 @@ module _ (c : tie.After-leading-of2) where
   c-small = rw (less-value _ k degree low) (less-small _ k degree low)
 
   k-is : toZ w64 (ofZ w64 k) ≡ kIs
-  k-is = back 0 k (omega arith) low ∙ c .before .quotient-of .ensures
+  k-is = back k (omega (arith, low)) ∙ c .before .quotient-of .ensures
 
 add-leading-of : tie.Need-add-leading-of
 add-leading-of c = search needs
