@@ -124,6 +124,6 @@ set-holds {A} Q l i a d h old new j k =
     ⊎-elim
     (λ (b : j < i). subst (Q j) (sym (getD-set-other l i j a d (λ e. omega arith))) (old j b))
     (λ (b : i ≤ j).
-        let e : i ≡ j = omega arith in
-        subst (λ (n : ℕ). Q n (getD (set l i a) n d)) e (subst (Q i) (sym (getD-set-same l i a d h)) new))
+    let e : i ≡ j = omega arith in
+    subst (λ (n : ℕ). Q n (getD (set l i a) n d)) e (subst (Q i) (sym (getD-set-same l i a d h)) new))
     (lt-or-ge j i)

@@ -1,8 +1,8 @@
 -- The cells of the decoder's polynomials are their coefficients.
 -- Assumes nothing.
-use mathlib.Core.Path.{_≡_, refl, sym, ap, _∙_}
+use mathlib.Core.Path.{_≡_, sym, ap, _∙_}
 use mathlib.Core.List.{List, []}
-use Prim.Native.Nat.{ℕ, _+_, _*_, _/_, _%_, _<_, _≤_}
+use Prim.Native.Nat.{ℕ, _+_, _*_, _/_, _%_, _<_}
 use native.Mathlib.Nat.{div-add-mod', zero-mul, div-eq-of-lt, mod-eq-of-lt, div-eq-of-lt-le, mod-eq-sub-div-mul}
 use native.Mathlib.Omega.{arith}
 use lib.ListN.{getD}
@@ -11,7 +11,7 @@ use Rattle.lists.proofs.Tables.{getD-tab}
 use Rattle.algebra.specs.Functions.{Fn}
 use Rattle.symbols.specs.Rule.{symbols, Sym}
 use Rattle.published.specs.Start.{Polynomial, Polynomials, coefficient, polynomial, polynomials, width, upper, lower}
-use Rattle.steps.specs.Area.{Cells, cellsOf}
+use Rattle.steps.specs.Area.{cellsOf}
 
 module _ (q : ℕ) where
   -- a symbol of a polynomial as it is held

@@ -1,13 +1,12 @@
 -- The numbers that the code finds for a pair are those of the definition.
 -- Assumes nothing.
 use mathlib.Core.Path.{_≡_, refl, sym, ap, _∙_}
-use mathlib.Core.Bool.{Bool, true, false}
-use mathlib.Core.List.{List}
+use mathlib.Core.Bool.{true, false}
 use Prim.Native.Nat.{ℕ, _+_, _*_, _%_}
-use lib.IntN.{ℤ, pos, _-ℤ_}
+use lib.IntN.{pos, _-ℤ_}
 use Rattle.symbols.specs.Rule.{Known, symbols, Sym, number, symbol}
 use Rattle.symbols.proofs.FieldLaws.{laws-of}
-use Rattle.published.specs.Start.{Polynomials, coefficient, width, upper, lower}
+use Rattle.published.specs.Start.{Polynomials, coefficient, width}
 use Rattle.published.specs.Pairing.{Pairing, degree, degreeOf, degreeF, degreeG, leadF, leadG, kOf, partnerOf, isNegative, isVoted, positivePart, looked, pairing}
 use Rattle.steps.specs.Area.{cellsOf, LeadingOf}
 use Rattle.steps.specs.Pairs.{NumbersOf}

@@ -5,13 +5,12 @@ use mathlib.Core.Bool.{Bool, true, false}
 use mathlib.Core.Logic.{_⊎_, inl, inr, ⊎-elim}
 use Prim.Native.Nat.{ℕ, _+_, _-_, _*_, _<_, _≤_}
 use native.Mathlib.Omega.{arith}
-use lib.Dec.{ltb}
 use borrow.Author.Tests.{lt-ltb, le-ltb}
 use Rattle.algebra.specs.Symbols.{Symbols}
 use Rattle.algebra.specs.Functions.{shift, timesX, timesYs}
-use Rattle.algebra.proofs.Ring.{ring, mul-add, add-assoc}
+use Rattle.algebra.proofs.Ring.{mul-add, add-assoc}
 use Rattle.lists.proofs.Numbers.{lt-or-ge, same-or-not}
-use Rattle.symbols.specs.Rule.{Known, symbols, Sym}
+use Rattle.symbols.specs.Rule.{Known, symbols}
 use Rattle.symbols.proofs.FieldLaws.{laws-of}
 use Rattle.symbols.proofs.Bytes.{minus-is-plus}
 use Rattle.steps.specs.Area.{Apart, Cells, withRows, sourceRow, sourceShift, plusMultiple, rowAdded, functionOf, plusProduct, productRowAdded, productAdded, upperOf, lowerOf, replacedZ}
@@ -69,8 +68,8 @@ module _ (q : ℕ) (known : Known q) where
       once o =
           row-is q (to .polynomial) (to .row + j) (plusProduct q to from a b ρ S j) S first
           (λ i. first-here i
-              ∙ ap (λ (y : K). functionOf q to S j i ⊕ ρ ⊗ y) (sym (product-plain (symbols q) q (functionOf q from S) a b j i hb hj o))
-              ∙ sym (plusProduct-is S j i))
+          ∙ ap (λ (y : K). functionOf q to S j i ⊕ ρ ⊗ y) (sym (product-plain (symbols q) q (functionOf q from S) a b j i hb hj o))
+          ∙ sym (plusProduct-is S j i))
           first-there
 
       -- two rows added make it where a y comes round
@@ -80,25 +79,29 @@ module _ (q : ℕ) (known : Known q) where
       twice apart some low =
           row-is q p₀ r₀ (plusProduct q to from a b ρ S j) S (withRows q p₀ r₀ 1 (λ n. more) first)
           (λ i.
-              row-here q p₀ r₀ more first i
-              ∙ plus-is q known (first p₀ r₀) ρ a (functionOf q from first (j + q - b - 1)) i
-              ∙ ap (λ (y : K). y ⊕ ρ ⊗ shift (symbols q) q a (functionOf q from first (j + q - b - 1)) i) (first-here i)
-              ∙ ap (λ (y : K). functionOf q to S j i ⊕ ρ ⊗ main i ⊕ ρ ⊗ y) (shift-cong (symbols q) q a i other)
-              ∙ add-assoc (laws-of q known) (functionOf q to S j i) (ρ ⊗ main i) (ρ ⊗ round i)
-              ∙ ap (λ (y : K). functionOf q to S j i ⊕ y) (sym (mul-add (laws-of q known) ρ (main i) (round i)))
-              ∙ ap (λ (y : K). functionOf q to S j i ⊕ ρ ⊗ y)
-                  (sym (minus-is-plus q (main i) (round i)) ∙ sym (product-round (symbols q) q (functionOf q from S) (laws-of q known) a b j i hb some low))
-              ∙ sym (plusProduct-is S j i))
+          row-here q p₀ r₀ more first i
+          ∙ plus-is q known (first p₀ r₀) ρ a (functionOf q from first (j + q - b - 1)) i
+          ∙ ap (λ (y : K). y ⊕ ρ ⊗ shift (symbols q) q a (functionOf q from first (j + q - b - 1)) i) (first-here i)
+          ∙ ap (λ (y : K). functionOf q to S j i ⊕ ρ ⊗ main i ⊕ ρ ⊗ y) (shift-cong (symbols q) q a i other)
+          ∙ add-assoc (laws-of q known) (functionOf q to S j i) (ρ ⊗ main i) (ρ ⊗ round i)
+          ∙ ap (λ (y : K). functionOf q to S j i ⊕ y) (sym (mul-add (laws-of q known) ρ (main i) (round i)))
+          ∙ ap (λ (y : K). functionOf q to S j i ⊕ ρ ⊗ y)
+          (sym (minus-is-plus q (main i) (round i)) ∙ sym (product-round (symbols q) q (functionOf q from S) (laws-of q known) a b j i hb some low))
+          ∙ sym (plusProduct-is S j i))
           (λ p r i ne. row-there q p₀ r₀ more first p r i ne ∙ first-there p r i ne)
         where
           p₀ : ℕ
           p₀ = to .polynomial
+
           r₀ : ℕ
           r₀ = to .row + j
+
           more : ℕ → K
           more = plusMultiple q (first p₀ r₀) ρ a (functionOf q from first (j + q - b - 1))
+
           round : ℕ → K
           round i = shift (symbols q) q a (functionOf q from S (j + q - b - 1)) i
+
           other : (n : ℕ) → functionOf q from first (j + q - b - 1) n ≡ functionOf q from S (j + q - b - 1) n
           other n = first-there (from .polynomial) (from .row + (j + q - b - 1)) n (λ e d. apart .rows j (j + q - b - 1) hj (omega arith) (sym e) (sym d))
 
@@ -112,12 +115,12 @@ module _ (q : ℕ) (known : Known q) where
       untouched k i hn hk =
           rows-out q (to .polynomial) (to .row) n (plusProduct q to from a b ρ S) S (from .polynomial) (from .row + k) i
           (λ e. ⊎-elim
-              (λ (h : from .row + k < to .row). inl h)
-              (λ (h : to .row ≤ from .row + k). ⊎-elim
-                  (λ (l : from .row + k < to .row + n). absurd (apart .rows (from .row + k - to .row) k (omega arith) hk (sym e) (omega arith)))
-                  (λ (l : to .row + n ≤ from .row + k). inr l)
-                  (lt-or-ge (from .row + k) (to .row + n)))
-              (lt-or-ge (from .row + k) (to .row)))
+          (λ (h : from .row + k < to .row). inl h)
+          (λ (h : to .row ≤ from .row + k). ⊎-elim
+          (λ (l : from .row + k < to .row + n). absurd (apart .rows (from .row + k - to .row) k (omega arith) hk (sym e) (omega arith)))
+          (λ (l : to .row + n ≤ from .row + k). inr l)
+          (lt-or-ge (from .row + k) (to .row + n)))
+          (lt-or-ge (from .row + k) (to .row)))
 
       -- one more row of the part
       pub product-more : n < q → (p r i : ℕ) → productRowAdded q to from n a b ρ done p r i ≡ productAdded q to from a b ρ (n + 1) S p r i
@@ -125,22 +128,24 @@ module _ (q : ℕ) (known : Known q) where
       product-more hn =
           rows-are q p₀ d (n + 1) F S (withRows q p₀ (d + n) 1 (λ m. plusProduct q to from a b ρ done n) done)
           (λ j i h. ⊎-elim
-              (λ (l : j < n). row-there q p₀ (d + n) (plusProduct q to from a b ρ done n) done p₀ (d + j) i (λ e z. omega arith) ∙ rows-in q p₀ d n F S j i l)
-              (λ (l : n ≤ j).
-                  let z : j ≡ n = omega arith in
-                  rw z
-                  (row-here q p₀ (d + n) (plusProduct q to from a b ρ done n) done i
-                  ∙ plusProduct-cong done S n i hn (rows-out q p₀ d n F S p₀ (d + n) i (λ e. inr (omega arith))) (λ k m hk. untouched k m (omega arith) hk)))
-              (lt-or-ge j n))
+          (λ (l : j < n). row-there q p₀ (d + n) (plusProduct q to from a b ρ done n) done p₀ (d + j) i (λ e z. omega arith) ∙ rows-in q p₀ d n F S j i l)
+          (λ (l : n ≤ j).
+          let z : j ≡ n = omega arith in
+          rw z
+          (row-here q p₀ (d + n) (plusProduct q to from a b ρ done n) done i
+          ∙ plusProduct-cong done S n i hn (rows-out q p₀ d n F S p₀ (d + n) i (λ e. inr (omega arith))) (λ k m hk. untouched k m (omega arith) hk)))
+          (lt-or-ge j n))
           (λ p r i out.
-              row-there q p₀ (d + n) (plusProduct q to from a b ρ done n) done p r i
-                  (λ e z. ⊎-elim (λ (h : r < d). omega arith) (λ (h : d + (n + 1) ≤ r). omega arith) (out e))
-              ∙ rows-out q p₀ d n F S p r i (λ e. ⊎-elim (λ (h : r < d). inl h) (λ (h : d + (n + 1) ≤ r). inr (omega arith)) (out e)))
+          row-there q p₀ (d + n) (plusProduct q to from a b ρ done n) done p r i
+          (λ e z. ⊎-elim (λ (h : r < d). omega arith) (λ (h : d + (n + 1) ≤ r). omega arith) (out e))
+          ∙ rows-out q p₀ d n F S p r i (λ e. ⊎-elim (λ (h : r < d). inl h) (λ (h : d + (n + 1) ≤ r). inr (omega arith)) (out e)))
         where
           p₀ : ℕ
           p₀ = to .polynomial
+
           d : ℕ
           d = to .row
+
           F : ℕ → ℕ → K
           F = plusProduct q to from a b ρ S
 
@@ -171,18 +176,19 @@ module _ (q : ℕ) (known : Known q) where
         ⊎-elim
         (λ (l : r < q). outside (inl l))
         (λ (l : q ≤ r). ⊎-elim
-            (λ (k : r < q + q).
-                let z : r ≡ q + (r - q) = omega arith in
-                rw z
-                (rows-in q p q q (F S) S (r - q) i (omega arith)
-                ∙ plusProduct-cong (lowerOf q p) (upperOf q p) a b ρ S T (r - q) i (omega arith) (h (q + (r - q)) i) (λ k n hk. h (0 + k) n)
-                ∙ sym (rows-in q p q q (F T) T (r - q) i (omega arith))))
-            (λ (k : q + q ≤ r). outside (inr k))
-            (lt-or-ge r (q + q)))
+        (λ (k : r < q + q).
+        let z : r ≡ q + (r - q) = omega arith in
+        rw z
+        (rows-in q p q q (F S) S (r - q) i (omega arith)
+        ∙ plusProduct-cong (lowerOf q p) (upperOf q p) a b ρ S T (r - q) i (omega arith) (h (q + (r - q)) i) (λ k n hk. h (0 + k) n)
+        ∙ sym (rows-in q p q q (F T) T (r - q) i (omega arith))))
+        (λ (k : q + q ≤ r). outside (inr k))
+        (lt-or-ge r (q + q)))
         (lt-or-ge r q)
       where
         F : Cells q → ℕ → ℕ → K
         F = plusProduct q (lowerOf q p) (upperOf q p) a b ρ
+
         outside : (r < q) ⊎ (q + q ≤ r) → withRows q p q q (F S) S p r i ≡ withRows q p q q (F T) T p r i
         outside o = rows-out q p q q (F S) S p r i (λ e. o) ∙ h r i ∙ sym (rows-out q p q q (F T) T p r i (λ e. o))
 
@@ -216,16 +222,17 @@ module _ (q : ℕ) (known : Known q) where
     replaced-more n S p r i =
         ⊎-elim
         (λ (e : p ≡ n).
-            rw e
-            (lower-cong (replacedZ q a b ρ n S) S n (λ r i. replaced-no n S n r i (omega arith)) r i
-            ∙ sym (replaced-yes (n + 1) S n r i (omega arith))))
+        rw e
+        (lower-cong (replacedZ q a b ρ n S) S n (λ r i. replaced-no n S n r i (omega arith)) r i
+        ∙ sym (replaced-yes (n + 1) S n r i (omega arith))))
         (λ ne. other ne ∙ ⊎-elim
-            (λ (h : p < n). replaced-yes n S p r i h ∙ sym (replaced-yes (n + 1) S p r i (omega arith)))
-            (λ (h : n ≤ p). replaced-no n S p r i h ∙ sym (replaced-no (n + 1) S p r i (above ne h)))
-            (lt-or-ge p n))
+        (λ (h : p < n). replaced-yes n S p r i h ∙ sym (replaced-yes (n + 1) S p r i (omega arith)))
+        (λ (h : n ≤ p). replaced-no n S p r i h ∙ sym (replaced-no (n + 1) S p r i (above ne h)))
+        (lt-or-ge p n))
         (same-or-not p n)
       where
         other : (p ≡ n → ⊥) → productAdded q (lowerOf q n) (upperOf q n) a b ρ q (replacedZ q a b ρ n S) p r i ≡ replacedZ q a b ρ n S p r i
         other ne = rows-out q n q q (plusProduct q (lowerOf q n) (upperOf q n) a b ρ (replacedZ q a b ρ n S)) (replacedZ q a b ρ n S) p r i (λ e. absurd (ne e))
+
         above : (p ≡ n → ⊥) → n ≤ p → n + 1 ≤ p
         above ne h = ⊎-elim (λ (k : n < p). omega arith) (λ (k : p ≤ n). absurd (ne (omega arith))) (lt-or-ge n p)

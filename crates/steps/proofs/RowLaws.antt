@@ -213,9 +213,9 @@ pub multiplies : (q m : ℕ) → Known q → Multiplies q (productRow q m) (symb
 multiplies q m known =
     record {
       at = λ a.
-        let below : number q a < q * q = laws-of q known .number-below a in
-        let small : q * q ≤ 16 = sizes q known .square-few in
-        rw (mod-eq-of-lt {n = number q a} {m = 16} (omega arith))
-        (row-at q m (number q a) (rw (size-known q known) small) (rw (size-known q known) below)
-        ∙ ap (λ (b : Sym q). number q (symbols q ._⊗_ (symbol q m) b)) (laws-of q known .symbol-number a));
+          let below : number q a < q * q = laws-of q known .number-below a in
+          let small : q * q ≤ 16 = sizes q known .square-few in
+          rw (mod-eq-of-lt {n = number q a} {m = 16} (omega arith))
+          (row-at q m (number q a) (rw (size-known q known) small) (rw (size-known q known) below)
+          ∙ ap (λ (b : Sym q). number q (symbols q ._⊗_ (symbol q m) b)) (laws-of q known .symbol-number a));
     }

@@ -1,9 +1,8 @@
 -- Differences of numbers as i64: they fit, the machine's exact division of one is the difference of the quotients, and what
 -- a test of the sign and a cast say.
 -- Assumes nothing.
-use mathlib.Core.Path.{_≡_, refl, sym, ap, _∙_, subst}
+use mathlib.Core.Path.{_≡_, refl, sym, ap, _∙_}
 use mathlib.Core.Bool.{Bool, true, false, cond}
-use mathlib.Core.Logic.{⊎-elim}
 use Prim.Native.Nat.{ℕ, zero, suc, _+_, _-_, _*_, _/_, _%_, _^_, _<_, _≤_}
 use native.Mathlib.Nat.{add-zero, sub-zero, add-mul, mul-add, mul-one, mul-comm, mul-le-mul-left, mul-div-cancel-left, div-add-mod', div-le-self, mod-lt, mul-le-mul, not-suc-le-zero}
 use native.Mathlib.Omega.{arith}

@@ -5,9 +5,7 @@ use mathlib.Core.Path.{_≡_, refl, sym, ap, _∙_, subst}
 use mathlib.Core.Bool.{Bool, true, false}
 use mathlib.Core.Logic.{_⊎_, inl, inr, ⊎-elim}
 use Prim.Native.Nat.{ℕ, zero, suc, _+_, _-_, _<_, _≤_}
-use native.Mathlib.Nat.{zero-add, add-zero}
 use native.Mathlib.Omega.{arith}
-use lib.Dec.{leb}
 use borrow.Author.Tests.{le-leb, lt-leb}
 use Rattle.algebra.specs.Symbols.{Symbols, Laws}
 use Rattle.algebra.specs.Functions.{Fn, shift, timesX, timesY, timesYs}
@@ -20,16 +18,18 @@ use Rattle.steps.specs.Area.{sourceRow, sourceShift}
 -- row j of y^b times a part comes from row j - b where there is one
 pub source-plain : (q b j : ℕ) → b ≤ j → (sourceRow q b j ≡ j - b) × (sourceShift q b j ≡ 0)
 unfolding sourceRow sourceShift
-source-plain q b j h =
-    (subst (λ (t : Bool). _≡_ {A = ℕ} (elim t [ true ↦ j - b | false ↦ j + q - b ]) (j - b)) (sym (le-leb b j h)) refl,
-    subst (λ (t : Bool). _≡_ {A = ℕ} (elim t [ true ↦ 0 | false ↦ q + 1 ]) 0) (sym (le-leb b j h)) refl)
+source-plain q b j h = (
+  subst (λ (t : Bool). _≡_ {A = ℕ} (elim t [ true ↦ j - b | false ↦ j + q - b ]) (j - b)) (sym (le-leb b j h)) refl,
+  subst (λ (t : Bool). _≡_ {A = ℕ} (elim t [ true ↦ 0 | false ↦ q + 1 ]) 0) (sym (le-leb b j h)) refl,
+)
 
 -- else from the row that y^q brings there, moved up by q + 1
 pub source-turned : (q b j : ℕ) → j < b → (sourceRow q b j ≡ j + q - b) × (sourceShift q b j ≡ q + 1)
 unfolding sourceRow sourceShift
-source-turned q b j h =
-    (subst (λ (t : Bool). _≡_ {A = ℕ} (elim t [ true ↦ j - b | false ↦ j + q - b ]) (j + q - b)) (sym (lt-leb b j h)) refl,
-    subst (λ (t : Bool). _≡_ {A = ℕ} (elim t [ true ↦ 0 | false ↦ q + 1 ]) (q + 1)) (sym (lt-leb b j h)) refl)
+source-turned q b j h = (
+  subst (λ (t : Bool). _≡_ {A = ℕ} (elim t [ true ↦ j - b | false ↦ j + q - b ]) (j + q - b)) (sym (lt-leb b j h)) refl,
+  subst (λ (t : Bool). _≡_ {A = ℕ} (elim t [ true ↦ 0 | false ↦ q + 1 ]) (q + 1)) (sym (lt-leb b j h)) refl,
+)
 
 module _ (𝓢 : Symbols) (q : ℕ) where
   infixl 65 _⊖_
@@ -49,6 +49,7 @@ module _ (𝓢 : Symbols) (q : ℕ) where
     where
       low : i < a → shift 𝓢 q a (shift 𝓢 q c f) i ≡ shift 𝓢 q (a + c) f i
       low h = shift-below 𝓢 q a (shift 𝓢 q c f) i h ∙ sym (shift-below 𝓢 q (a + c) f i (omega arith))
+
       high : a ≤ i → shift 𝓢 q a (shift 𝓢 q c f) i ≡ shift 𝓢 q (a + c) f i
       high h =
           shift-at 𝓢 q a (shift 𝓢 q c f) i h
@@ -62,11 +63,11 @@ module _ (𝓢 : Symbols) (q : ℕ) where
   shift-sub 𝓛 a f g i =
       ⊎-elim
       (λ (h : i < a).
-          shift-below 𝓢 q a (λ n. f n ⊖ g n) i h
-          ∙ sym (ap (λ (y : K). y ⊖ shift 𝓢 q a g i) (shift-below 𝓢 q a f i h) ∙ ap (λ (y : K). 𝟘 ⊖ y) (shift-below 𝓢 q a g i h) ∙ sub-self 𝓛 𝟘))
+      shift-below 𝓢 q a (λ n. f n ⊖ g n) i h
+      ∙ sym (ap (λ (y : K). y ⊖ shift 𝓢 q a g i) (shift-below 𝓢 q a f i h) ∙ ap (λ (y : K). 𝟘 ⊖ y) (shift-below 𝓢 q a g i h) ∙ sub-self 𝓛 𝟘))
       (λ (h : a ≤ i).
-          shift-at 𝓢 q a (λ n. f n ⊖ g n) i h
-          ∙ sym (ap (λ (y : K). y ⊖ shift 𝓢 q a g i) (shift-at 𝓢 q a f i h) ∙ ap (λ (y : K). f (i - a) ⊖ y) (shift-at 𝓢 q a g i h)))
+      shift-at 𝓢 q a (λ n. f n ⊖ g n) i h
+      ∙ sym (ap (λ (y : K). y ⊖ shift 𝓢 q a g i) (shift-at 𝓢 q a f i h) ∙ ap (λ (y : K). f (i - a) ⊖ y) (shift-at 𝓢 q a g i h)))
       (lt-or-ge i a)
 
   -- y^b times functions that agree in the powers of y below q
@@ -110,13 +111,13 @@ module _ (𝓢 : Symbols) (q : ℕ) where
     main-suc b j i =
         ⊎-elim
         (λ (h : j < b).
-            main-turned (suc b) (suc j) i (omega arith)
-            ∙ ap (λ (n : ℕ). shift 𝓢 q (q + 1) (F n) i) (omega arith)
-            ∙ sym (main-turned b j i h))
+        main-turned (suc b) (suc j) i (omega arith)
+        ∙ ap (λ (n : ℕ). shift 𝓢 q (q + 1) (F n) i) (omega arith)
+        ∙ sym (main-turned b j i h))
         (λ (h : b ≤ j).
-            main-plain (suc b) (suc j) i (omega arith)
-            ∙ ap (λ (n : ℕ). F n i) (omega arith)
-            ∙ sym (main-plain b j i h))
+        main-plain (suc b) (suc j) i (omega arith)
+        ∙ ap (λ (n : ℕ). F n i) (omega arith)
+        ∙ sym (main-plain b j i h))
         (lt-or-ge j b)
 
     -- a row of y^b·F that no y came round to
@@ -126,9 +127,9 @@ module _ (𝓢 : Symbols) (q : ℕ) where
         timesYs-suc F b 0 i
         ∙ timesY-zero 𝓢 q (timesYs 𝓢 q b F) i
         ∙ shift-cong (q + 1) i
-            (λ n. plain b (q - 1) n (omega arith) (omega arith) (inr (omega arith))
-            ∙ main-plain b (q - 1) n (omega arith)
-            ∙ ap (λ (m : ℕ). F m n) {x = q - 1 - b} {y = 0 + q - suc b} (omega arith))
+        (λ n. plain b (q - 1) n (omega arith) (omega arith) (inr (omega arith))
+        ∙ main-plain b (q - 1) n (omega arith)
+        ∙ ap (λ (m : ℕ). F m n) {x = q - 1 - b} {y = 0 + q - suc b} (omega arith))
         ∙ sym (main-turned (suc b) 0 i (omega arith))
     plain (suc b) (suc zero) i hb hj o = absurd (⊎-elim (λ (e : 1 ≡ 0). omega arith) (λ (h : suc b < 1). omega arith) o)
     plain (suc b) (suc (suc j)) i hb hj o =
@@ -146,7 +147,7 @@ module _ (𝓢 : Symbols) (q : ℕ) where
         ∙ timesY-one 𝓢 q (timesYs 𝓢 q b F) i
         ∙ ap (λ (y : K). y ⊖ timesYs 𝓢 q b F (q - 1) i) (plain b 0 i (omega arith) (omega arith) (inl refl) ∙ sym (main-suc b 0 i))
         ∙ ap (λ (y : K). main (suc b) 1 i ⊖ y)
-            (plain b (q - 1) i (omega arith) (omega arith) (inr (omega arith)) ∙ main-plain b (q - 1) i (omega arith) ∙ ap (λ (n : ℕ). F n i) (omega arith))
+        (plain b (q - 1) i (omega arith) (omega arith) (inr (omega arith)) ∙ main-plain b (q - 1) i (omega arith) ∙ ap (λ (n : ℕ). F n i) (omega arith))
     round (suc b) (suc (suc j)) i hb hj h =
         timesYs-suc F b (suc (suc j)) i
         ∙ timesY-more 𝓢 q (timesYs 𝓢 q b F) j i

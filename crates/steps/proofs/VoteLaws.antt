@@ -1,12 +1,11 @@
 -- Scores pair by pair, the best symbol number by number, and which steps vote.
 -- Assumes nothing.
 use mathlib.Core.Path.{_≡_, refl, sym, ap, _∙_}
-use mathlib.Core.Bool.{Bool, true, false, cond, not, _&&_}
+use mathlib.Core.Bool.{true, false, cond}
 use mathlib.Core.List.{List, [], _∷_, _++_}
 use mathlib.Core.Logic.{⊎-elim}
 use Prim.Native.Nat.{ℕ, zero, suc, _+_, _-_, _*_, _%_, _<_, _≤_}
 use native.Mathlib.Nat.{add-zero, zero-add, add-assoc}
-use native.Mathlib.Numerals.{add-one}
 use native.Mathlib.Omega.{arith}
 use lib.Dec.{eqb, leb, ltb}
 use lib.ListN.{length, getD, set, replicate, length-replicate, getD-replicate, List·getD-eq-default}
@@ -16,7 +15,7 @@ use Rattle.algebra.specs.Weights.{gap, nongap}
 use Rattle.lists.specs.Tables.{from, tab}
 use Rattle.lists.proofs.Numbers.{lt-or-ge, same-or-not}
 use Rattle.lists.proofs.Tables.{tab-more}
-use Rattle.symbols.specs.Rule.{Known, symbols, number, symbol}
+use Rattle.symbols.specs.Rule.{Known, symbols, number}
 use Rattle.symbols.proofs.FieldLaws.{laws-of}
 use Rattle.symbols.proofs.Bytes.{number-of-below}
 use Rattle.published.specs.Pairing.{Pairing, isVoted, positivePart, score, best, vote}
@@ -69,19 +68,20 @@ module _ (q : ℕ) where
   scores-more P scores i w gain ew eg old a h =
       ⊎-elim
       (λ (e : w ≡ a).
-          rw e
-          (getD-set-same scores a (getD scores a 0 + gain) 0 h
-          ∙ ap (λ (n : ℕ). n + gain) (old a h)
-          ∙ ap (λ (n : ℕ). score (symbols q) q (tab i P) a + n) (eg ∙ sym (hit e))
-          ∙ sym (score-more P i a)))
+      rw e
+      (getD-set-same scores a (getD scores a 0 + gain) 0 h
+      ∙ ap (λ (n : ℕ). n + gain) (old a h)
+      ∙ ap (λ (n : ℕ). score (symbols q) q (tab i P) a + n) (eg ∙ sym (hit e))
+      ∙ sym (score-more P i a)))
       (λ ne.
-          getD-set-other scores w a (getD scores w 0 + gain) 0 (λ e. ne (sym e))
-          ∙ old a h
-          ∙ sym (score-more P i a ∙ ap (λ (n : ℕ). score (symbols q) q (tab i P) a + n) (miss ne) ∙ add-zero (score (symbols q) q (tab i P) a)))
+      getD-set-other scores w a (getD scores w 0 + gain) 0 (λ e. ne (sym e))
+      ∙ old a h
+      ∙ sym (score-more P i a ∙ ap (λ (n : ℕ). score (symbols q) q (tab i P) a + n) (miss ne) ∙ add-zero (score (symbols q) q (tab i P) a)))
       (same-or-not w a)
     where
       hit : w ≡ a → share (P i) a ≡ positivePart (P i .c)
       hit e = rw (eq-eqb (number q (P i .w)) a (sym ew ∙ e))
+
       miss : (w ≡ a → ⊥) → share (P i) a ≡ 0
       miss ne = rw (ne-eqb (number q (P i .w)) a (λ e. ne (ew ∙ e)))
 

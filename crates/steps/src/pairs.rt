@@ -57,7 +57,13 @@ fn pair_of(work: &[u8], q: usize, i: usize, s: usize, voted: bool) -> Pair
     let b = reading::coefficient_at(work, q, q + i, q + partner, k as usize);
     if voted {
         let w = symbols::product(q, b, symbols::inverse(q, mu));
-        return Pair { partner, c, w, mu, nu };
+        return Pair {
+            partner,
+            c,
+            w,
+            mu,
+            nu,
+        };
     }
     Pair {
         partner,

@@ -1,7 +1,6 @@
 // Products by monomials: ρ·x^a·y^b times one part of a polynomial added to another part, and the substitution for z.
 use crate::area;
 ghost use mathlib.Core.Path.{_≡_};
-ghost use mathlib.Core.Logic.{_⊎_};
 ghost use Prim.Native.Nat.{_+_, _*_, _<_, _≤_};
 ghost use lib.ListN.{length};
 ghost use Rattle.symbols.specs.Rule.{Sym, symbol};
@@ -37,7 +36,16 @@ fn source_of(q: usize, b: usize, j: usize) -> Source
 }
 
 // Adds to row j of one part that of x^a·y^b times another part, times what `products` is the table row of.
-fn add_product_row(work: &mut [u8], q: usize, to: Part, from: Part, j: usize, a: usize, b: usize, products: [u8; 16])
+fn add_product_row(
+    work: &mut [u8],
+    q: usize,
+    to: Part,
+    from: Part,
+    j: usize,
+    a: usize,
+    b: usize,
+    products: [u8; 16],
+)
     requires { ⌜ Area q (length (now work)) ⌝ }
     requires { ⌜ Apart q to from ⌝ }
     requires { ⌜ (j < q) × (b < q) × (a ≤ 1000) ⌝ }
@@ -62,7 +70,15 @@ fn add_product_row(work: &mut [u8], q: usize, to: Part, from: Part, j: usize, a:
 }
 
 // The same in all rows of the part.
-pub fn add_product(work: &mut [u8], q: usize, to: Part, from: Part, a: usize, b: usize, products: [u8; 16])
+pub fn add_product(
+    work: &mut [u8],
+    q: usize,
+    to: Part,
+    from: Part,
+    a: usize,
+    b: usize,
+    products: [u8; 16],
+)
     requires { ⌜ Area q (length (now work)) ⌝ }
     requires { ⌜ Apart q to from ⌝ }
     requires { ⌜ (b < q) × (a ≤ 1000) ⌝ }

@@ -1,29 +1,19 @@
 -- Each of the three ways out gives the numbers of the pairing.
 -- Assumes nothing.
-use mathlib.Core.Path.{_≡_, refl, sym, ap, _∙_}
-use Prim.Native.Nat.{ℕ, _+_, _*_, _%_, _<_, _≤_}
+use mathlib.Core.Path.{_≡_, refl, ap, _∙_}
+use Prim.Native.Nat.{ℕ, _+_, _*_, _≤_}
 use native.Mathlib.Nat.{mul-le-mul}
 use native.Mathlib.Omega.{arith}
 use lib.IntN.{ℤ, pos, _-ℤ_, natAbs}
 use mir.Syntax.{w64}
 use mir.Val.{toZ, ofZ}
-use Rattle.symbols.specs.Rule.{Known, symbols, symbol, number}
-use Rattle.symbols.proofs.FieldLaws.{laws-of}
-use Rattle.published.specs.Pairing.{kOf, leadF, positivePart}
-use Rattle.steps.specs.Area.{Area, cellsOf}
-use Rattle.steps.specs.Pairs.{Held}
+use Rattle.published.specs.Pairing.{kOf}
+use Rattle.steps.specs.Area.{cellsOf}
 use Rattle.steps.proofs.Signed.{Divided, divided, k-small, back, less-small, less-fits, less-value, negative-yes, negative-no, cast-fits}
 use Rattle.steps.proofs.PairNumbers.{lead-f, quotient-is, pair-negative, pair-voted, pair-plain}
 use borrow.Author.Needs.{needs}
 use Rattle.steps.proofs.pairs.pair_of.Statement.{statement}
 use Rattle.steps.proofs.pairs.pair_of.Tie as tie
-use Rattle.steps.proofs.pairs.pair_of.Reads as reads
-use Rattle.steps.proofs.pairs.pair_of.Lts as lts
-use Rattle.steps.proofs.pairs.quotient_of.Reads as quotient-of-reads
-use Rattle.steps.proofs.reading.coefficient_at.Reads as coefficient-at-reads
-use Rattle.steps.proofs.reading.leading_of.Reads as leading-of-reads
-use Rattle.symbols.proofs.inverse.Reads as inverse-reads
-use Rattle.symbols.proofs.product.Reads as product-reads
 
 -- the sum that is divided
 abbrev total : tie.After-leading-of → ℕ
@@ -110,11 +100,12 @@ sub-c c = less-fits _ (k c) (degree c) (low c)
 returns : tie.Need-returns
 returns c =
     let d = c .before in
-    let s = c .before .before .before .before .before in
-    (record { partner = parts (d .before .before) .part; c = c-small d },
-    λ S u narrow z v.
-        pair-negative _ (s .pre .0 .known) S u _ _ (c .before .before .before .leading-of .result) (c .before .leading-of2 .result) (c .before .before .before .leading-of .ensures .1 (cellsOf _ S) z) (c .before .leading-of2 .ensures .1 (cellsOf _ S) z)
-        _ refl (c-is d) refl (negative-yes (kIs d) (rw (k-is d) at (c .if1 .taken))) refl refl)
+    let s = c .before .before .before .before .before in (
+      record { partner = parts (d .before .before) .part; c = c-small d },
+      λ S u narrow z v.
+          pair-negative _ (s .pre .0 .known) S u _ _ (c .before .before .before .leading-of .result) (c .before .leading-of2 .result) (c .before .before .before .leading-of .ensures .1 (cellsOf _ S) z) (c .before .leading-of2 .ensures .1 (cellsOf _ S) z)
+          _ refl (c-is d) refl (negative-yes (kIs d) (rw (k-is d) at (c .if1 .taken))) refl refl,
+    )
 
 add-coefficient-at : tie.Need-add-coefficient-at
 add-coefficient-at c = search needs
@@ -140,25 +131,27 @@ returns-2 : tie.Need-returns-2
 returns-2 c =
     let d = c .before .before .before .before .before in
     let s = c .before .before .before .before .before .before .before .before .before in
-    let n = negative-no (kIs d) (rw (k-is d) at (c .before .before .before .before .if1 .left)) in
-    (record { partner = parts (d .before .before) .part; c = c-small d },
-    λ S u narrow z v.
-        let lead = c .before .before .before .before .before .before .before .leading-of .ensures .1 (cellsOf _ S) z in
-        let read = rw (k-is d, n .1) at (c .before .before .before .coefficient-at .ensures (cellsOf _ S) narrow z) in
-        pair-voted _ (s .pre .0 .known) S u _ _ (c .before .before .before .before .before .before .before .leading-of .result) (c .before .before .before .before .before .leading-of2 .result) lead (c .before .before .before .before .before .leading-of2 .ensures .1 (cellsOf _ S) z)
-        _ refl (c-is d) refl (n .0) (v ∙ c .before .before .if2 .taken)
-        (quotient-is _ (s .pre .0 .known) _ _ _ _ _ _ read (lead-f _ S _ _ lead) (c .before .inverse .ensures) (c .product .ensures)) refl)
+    let n = negative-no (kIs d) (rw (k-is d) at (c .before .before .before .before .if1 .left)) in (
+      record { partner = parts (d .before .before) .part; c = c-small d },
+      λ S u narrow z v.
+          let lead = c .before .before .before .before .before .before .before .leading-of .ensures .1 (cellsOf _ S) z in
+          let read = rw (k-is d, n .1) at (c .before .before .before .coefficient-at .ensures (cellsOf _ S) narrow z) in
+          pair-voted _ (s .pre .0 .known) S u _ _ (c .before .before .before .before .before .before .before .leading-of .result) (c .before .before .before .before .before .leading-of2 .result) lead (c .before .before .before .before .before .leading-of2 .ensures .1 (cellsOf _ S) z)
+          _ refl (c-is d) refl (n .0) (v ∙ c .before .before .if2 .taken)
+          (quotient-is _ (s .pre .0 .known) _ _ _ _ _ _ read (lead-f _ S _ _ lead) (c .before .inverse .ensures) (c .product .ensures)) refl,
+    )
 
 returns-3 : tie.Need-returns-3
 returns-3 c =
     let d = c .before .before .before in
     let s = c .before .before .before .before .before .before .before in
-    let n = negative-no (kIs d) (rw (k-is d) at (c .before .before .if1 .left)) in
-    (record { partner = parts (d .before .before) .part; c = c-small d },
-    λ S u narrow z v.
-        pair-plain _ (s .pre .0 .known) S u _ _ (c .before .before .before .before .before .leading-of .result) (c .before .before .before .leading-of2 .result) (c .before .before .before .before .before .leading-of .ensures .1 (cellsOf _ S) z) (c .before .before .before .leading-of2 .ensures .1 (cellsOf _ S) z)
-        _ refl (c-is d) refl (n .0) (v ∙ c .if2 .left)
-        (rw (k-is d, n .1) at (c .before .coefficient-at .ensures (cellsOf _ S) narrow z)) refl)
+    let n = negative-no (kIs d) (rw (k-is d) at (c .before .before .if1 .left)) in (
+      record { partner = parts (d .before .before) .part; c = c-small d },
+      λ S u narrow z v.
+          pair-plain _ (s .pre .0 .known) S u _ _ (c .before .before .before .before .before .leading-of .result) (c .before .before .before .leading-of2 .result) (c .before .before .before .before .before .leading-of .ensures .1 (cellsOf _ S) z) (c .before .before .before .leading-of2 .ensures .1 (cellsOf _ S) z)
+          _ refl (c-is d) refl (n .0) (v ∙ c .if2 .left)
+          (rw (k-is d, n .1) at (c .before .coefficient-at .ensures (cellsOf _ S) narrow z)) refl,
+    )
 
 pub pair-of-spec : {M : Type 1} → statement M
 pair-of-spec =

@@ -1,9 +1,9 @@
 -- Each turn finds the numbers of one pair more.
 -- Assumes nothing.
 use mathlib.Core.Path.{_≡_}
-use Prim.Native.Nat.{ℕ, _+_, _-_, _≤_, _<_}
+use Prim.Native.Nat.{ℕ, _-_, _≤_, _<_}
 use native.Mathlib.Omega.{arith}
-use lib.ListN.{length, set, length-set}
+use lib.ListN.{length, length-set}
 use Rattle.lists.proofs.Put.{set-holds}
 use Rattle.symbols.specs.Rule.{symbols}
 use Rattle.published.specs.Start.{Polynomials}
@@ -13,9 +13,6 @@ use Rattle.steps.specs.Pairs.{Held, NumbersOf, pairAt}
 use borrow.Author.Needs.{needs}
 use Rattle.steps.proofs.pairs.pairs_of.Statement.{statement}
 use Rattle.steps.proofs.pairs.pairs_of.Tie as tie
-use Rattle.steps.proofs.pairs.pairs_of.Reads as reads
-use Rattle.steps.proofs.pairs.pairs_of.Lts as lts
-use Rattle.steps.proofs.pairs.pair_of.Reads as pair-of-reads
 
 abbrev Inv-loop : tie.InvT-loop
 Inv-loop work q s voted pairs₀ i₀ pairs i =
@@ -51,11 +48,13 @@ loop-again c =
     let q = s .args .q in
     let i = c .before .before .loop .i in
     let pairs = c .before .before .loop .pairs in
-    let room : i < length pairs = omega (arith, s .pre .0 .few) in
-    (search needs, simp length-set (c .before .before .loop .inv .1),
-    set-holds (λ j pair. Held q pair) pairs i _ _ room (c .before .before .loop .inv .2) (c .pair-of .ensures .0),
-    λ S u n z v.
-        set-holds (λ j pair. NumbersOf q pair (pairing (symbols q) q u (s .args .s) S j)) pairs i _ _ room (c .before .before .loop .inv .3 S u n z v) (c .pair-of .ensures .1 S u n z v))
+    let room : i < length pairs = omega (arith, s .pre .0 .few) in (
+      search needs,
+      simp length-set (c .before .before .loop .inv .1),
+      set-holds (λ j pair. Held q pair) pairs i _ _ room (c .before .before .loop .inv .2) (c .pair-of .ensures .0),
+      λ S u n z v.
+          set-holds (λ j pair. NumbersOf q pair (pairing (symbols q) q u (s .args .s) S j)) pairs i _ _ room (c .before .before .loop .inv .3 S u n z v) (c .pair-of .ensures .1 S u n z v),
+    )
 
 returns : tie.Need-returns Inv-loop μ-loop
 returns c =

@@ -6,8 +6,6 @@ use Rattle.steps.proofs.Signed.{Divided, divided, difference-fits, k-fi
 use borrow.Author.Needs.{needs}
 use Rattle.steps.proofs.pairs.quotient_of.Statement.{statement}
 use Rattle.steps.proofs.pairs.quotient_of.Tie as tie
-use Rattle.steps.proofs.pairs.quotient_of.Reads as reads
-use Rattle.steps.proofs.pairs.quotient_of.Lts as lts
 
 -- how large the numbers are
 small : (c : tie.Start) → Divided (c .args .q) (c .args .total)

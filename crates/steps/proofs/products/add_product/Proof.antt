@@ -1,7 +1,7 @@
 -- Each turn adds one row more.
 -- Assumes nothing.
 use mathlib.Core.Path.{_≡_}
-use Prim.Native.Nat.{_+_, _-_, _≤_}
+use Prim.Native.Nat.{_-_, _≤_}
 use native.Mathlib.Omega.{arith}
 use lib.ListN.{length}
 use Rattle.symbols.specs.Rule.{Sym}
@@ -11,9 +11,6 @@ use Rattle.steps.proofs.ProductCells.{product-none, product-more}
 use borrow.Author.Needs.{needs}
 use Rattle.steps.proofs.products.add_product.Statement.{statement}
 use Rattle.steps.proofs.products.add_product.Tie as tie
-use Rattle.steps.proofs.products.add_product.Reads as reads
-use Rattle.steps.proofs.products.add_product.Lts as lts
-use Rattle.steps.proofs.products.add_product_row.Reads as add-product-row-reads
 
 abbrev Inv-loop : tie.InvT-loop
 Inv-loop work₀ q to from a b products j₀ work j =
@@ -40,9 +37,12 @@ loop-less c = search needs
 
 loop-again : tie.Need-loop-again Inv-loop μ-loop
 loop-again c =
-    let s = c .before .before .before .before .before .before .before in
-    (search needs, search needs, λ ρ m. turns-same _ (λ S p r i hp hr hi. product-more _ (s .pre .0 .known) (s .args .to) (s .args .from) _ _ ρ (s .pre .1 .0) S _ (c .before .before .before .before .loop-test .taken) p r i)
-    (turns-both _ (c .before .before .before .before .before .loop .inv .2 ρ m) (c .before .before .add-product-row .ensures ρ m)))
+    let s = c .before .before .before .before .before .before .before in (
+      search needs,
+      search needs,
+      λ ρ m. turns-same _ (λ S p r i hp hr hi. product-more _ (s .pre .0 .known) (s .args .to) (s .args .from) _ _ ρ (s .pre .1 .0) S _ (c .before .before .before .before .loop-test .taken) p r i)
+          (turns-both _ (c .before .before .before .before .before .loop .inv .2 ρ m) (c .before .before .add-product-row .ensures ρ m)),
+    )
 
 same-length : tie.Need-same-length Inv-loop μ-loop
 same-length c = search needs

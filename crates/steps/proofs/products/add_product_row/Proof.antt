@@ -1,6 +1,5 @@
 -- One row is added, and where a y comes round a second one; together they are the row of the product.
 -- Assumes nothing.
-use mathlib.Core.Path.{sym}
 use mathlib.Core.Logic.{inl, inr}
 use native.Mathlib.Omega.{arith}
 use Rattle.steps.proofs.Cells.{still, turns-same, turns-both}
@@ -8,10 +7,6 @@ use Rattle.steps.proofs.ProductCells.{once, twice}
 use borrow.Author.Needs.{needs}
 use Rattle.steps.proofs.products.add_product_row.Statement.{statement}
 use Rattle.steps.proofs.products.add_product_row.Tie as tie
-use Rattle.steps.proofs.products.add_product_row.Reads as reads
-use Rattle.steps.proofs.products.add_product_row.Lts as lts
-use Rattle.steps.proofs.area.add_row.Reads as add-row-reads
-use Rattle.steps.proofs.products.source_of.Reads as source-of-reads
 
 source-of-requires : tie.Need-source-of-requires
 source-of-requires c κs = search needs

@@ -6,8 +6,6 @@ use Rattle.steps.proofs.Turned.{source-plain, source-turned}
 use borrow.Author.Needs.{needs}
 use Rattle.steps.proofs.products.source_of.Statement.{statement}
 use Rattle.steps.proofs.products.source_of.Tie as tie
-use Rattle.steps.proofs.products.source_of.Reads as reads
-use Rattle.steps.proofs.products.source_of.Lts as lts
 
 returns : tie.Need-returns
 returns c =

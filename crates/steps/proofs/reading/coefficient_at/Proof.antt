@@ -9,10 +9,6 @@ use Rattle.steps.proofs.Sizes.{row-small}
 use borrow.Author.Needs.{needs}
 use Rattle.steps.proofs.reading.coefficient_at.Statement.{statement}
 use Rattle.steps.proofs.reading.coefficient_at.Tie as tie
-use Rattle.steps.proofs.reading.coefficient_at.Reads as reads
-use Rattle.steps.proofs.reading.coefficient_at.Lts as lts
-use Rattle.steps.proofs.area.row_place.Reads as row-place-reads
-use Rattle.steps.proofs.area.width_of.Reads as width-of-reads
 
 width-of-requires : tie.Need-width-of-requires
 width-of-requires c κs = search needs

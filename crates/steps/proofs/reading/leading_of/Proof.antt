@@ -1,7 +1,7 @@
 -- From above, the first symbol that is not zero.
 -- Assumes nothing.
-use mathlib.Core.Path.{_≡_, sym, _∙_, ap}
-use Prim.Native.Nat.{ℕ, _+_, _-_, _≤_}
+use mathlib.Core.Path.{_≡_, sym, _∙_}
+use Prim.Native.Nat.{_-_, _≤_}
 use native.Mathlib.Nat.{add-zero}
 use native.Mathlib.Omega.{arith}
 use Rattle.symbols.specs.Rule.{number}
@@ -14,10 +14,6 @@ use Rattle.steps.proofs.Degrees.{degree-skip, degree-found, degree-one}
 use borrow.Author.Needs.{needs}
 use Rattle.steps.proofs.reading.leading_of.Statement.{statement}
 use Rattle.steps.proofs.reading.leading_of.Tie as tie
-use Rattle.steps.proofs.reading.leading_of.Reads as reads
-use Rattle.steps.proofs.reading.leading_of.Lts as lts
-use Rattle.steps.proofs.area.row_place.Reads as row-place-reads
-use Rattle.steps.proofs.area.width_of.Reads as width-of-reads
 
 abbrev Inv-loop : tie.InvT-loop
 Inv-loop work q p r at i₀ i =
@@ -63,24 +59,29 @@ shared-slice-read-t13 c =
 
 returns : tie.Need-returns Inv-loop μ-loop
 returns c =
-    let s = c .before .before .before .before .before .before .before .before in
-    (omega arith, λ S z.
-        let read = shown-read _ S _ (z .rest) (z .is) _ _ (c .before .before .before .before .loop .i - 1) (s .pre .1 .0) (s .pre .1 .1) (omega arith) in
-        record {
-          degree-is = sym (c .before .before .before .before .loop .inv .2 S z ∙ degree-found _ _ (omega arith) (λ e. c .before .if1 .taken ((rw (c .before .before .before .before .before .before .row-place .ensures) read) ∙ e)));
-          coefficient-is = rw (c .before .before .before .before .before .before .row-place .ensures) read;
-        })
+    let s = c .before .before .before .before .before .before .before .before in (
+      omega arith,
+      λ S z.
+          let read = shown-read _ S _ (z .rest) (z .is) _ _ (c .before .before .before .before .loop .i - 1) (s .pre .1 .0) (s .pre .1 .1) (omega arith) in
+          record {
+            degree-is = sym (c .before .before .before .before .loop .inv .2 S z ∙ degree-found _ _ (omega arith) (λ e. c .before .if1 .taken ((rw (c .before .before .before .before .before .before .row-place .ensures) read) ∙ e)));
+            coefficient-is = rw (c .before .before .before .before .before .before .row-place .ensures) read;
+          },
+    )
 
 loop-less : tie.Need-loop-less Inv-loop μ-loop
 loop-less c = search needs
 
 loop-again : tie.Need-loop-again Inv-loop μ-loop
 loop-again c =
-    let s = c .before .before .before .before .before .before .before in
-    (omega arith, omega arith, λ S z.
-        c .before .before .before .loop .inv .2 S z
-        ∙ degree-skip _ _ (omega arith)
-            (sym (shown-read _ S _ (z .rest) (z .is) _ _ (c .before .before .before .loop .i - 1) (s .pre .1 .0) (s .pre .1 .1) (omega arith)) ∙ (rw (← c .before .before .before .before .before .row-place .ensures) (c .if1 .left))))
+    let s = c .before .before .before .before .before .before .before in (
+      omega arith,
+      omega arith,
+      λ S z.
+          c .before .before .before .loop .inv .2 S z
+          ∙ degree-skip _ _ (omega arith)
+          (sym (shown-read _ S _ (z .rest) (z .is) _ _ (c .before .before .before .loop .i - 1) (s .pre .1 .0) (s .pre .1 .1) (omega arith)) ∙ (rw (← c .before .before .before .before .before .row-place .ensures) (c .if1 .left))),
+    )
 
 shared-slice-read-t15 : tie.Need-shared-slice-read-t15 Inv-loop μ-loop
 shared-slice-read-t15 c =
@@ -90,13 +91,15 @@ shared-slice-read-t15 c =
 returns-2 : tie.Need-returns-2 Inv-loop μ-loop
 returns-2 c =
     let s = c .before .before .before .before .before .before in
-    let i : c .before .before .loop .i ≡ 1 = omega arith in
-    (omega (arith, s .pre .0 .square), λ S z.
-        let read = shown-read _ S _ (z .rest) (z .is) _ _ 0 (s .pre .1 .0) (s .pre .1 .1) (omega (arith, s .pre .0 .square)) in
-        record {
-          degree-is = sym (rw i at (c .before .before .loop .inv .2 S z) ∙ degree-one _);
-          coefficient-is = rw (c .before .before .before .before .row-place .ensures) (rw add-zero at read);
-        })
+    let i : c .before .before .loop .i ≡ 1 = omega arith in (
+      omega (arith, s .pre .0 .square),
+      λ S z.
+          let read = shown-read _ S _ (z .rest) (z .is) _ _ 0 (s .pre .1 .0) (s .pre .1 .1) (omega (arith, s .pre .0 .square)) in
+          record {
+            degree-is = sym (rw i at (c .before .before .loop .inv .2 S z) ∙ degree-one _);
+            coefficient-is = rw (c .before .before .before .before .row-place .ensures) (rw add-zero at read);
+          },
+    )
 
 pub leading-of-spec : {M : Type 1} → statement M
 leading-of-spec =

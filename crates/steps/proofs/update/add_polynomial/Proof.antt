@@ -1,7 +1,7 @@
 -- Each turn adds one row more.
 -- Assumes nothing.
 use mathlib.Core.Path.{_≡_}
-use Prim.Native.Nat.{_+_, _-_, _*_, _≤_}
+use Prim.Native.Nat.{_-_, _*_, _≤_}
 use native.Mathlib.Omega.{arith}
 use lib.ListN.{length}
 use Rattle.symbols.specs.Rule.{symbol}
@@ -12,10 +12,6 @@ use Rattle.steps.proofs.UpdateCells.{added-none, added-more}
 use borrow.Author.Needs.{needs}
 use Rattle.steps.proofs.update.add_polynomial.Statement.{statement}
 use Rattle.steps.proofs.update.add_polynomial.Tie as tie
-use Rattle.steps.proofs.update.add_polynomial.Reads as reads
-use Rattle.steps.proofs.update.add_polynomial.Lts as lts
-use Rattle.steps.proofs.area.add_row.Reads as add-row-reads
-use Rattle.symbols.proofs.products_of.Reads as products-of-reads
 
 abbrev Inv-loop : tie.InvT-loop
 Inv-loop work₀ q f g shift m products r₀ r-end work r = (r ≤ 2 * q) × (length work ≡ length work₀) × Turns q work₀ work (polynomialAdded q f g shift (symbol q m) r)
@@ -46,9 +42,12 @@ loop-less c = search needs
 
 loop-again : tie.Need-loop-again Inv-loop μ-loop
 loop-again c =
-    let s = c .before .before .before .before .before .before .before .before in
-    (search needs, search needs, turns-same _ (λ S p r i hp hr hi. added-more _ (s .pre .0 .known) _ _ _ (s .pre .1 .2) _ S _ p r i)
-    (turns-both _ (c .before .before .before .before .before .loop .inv .2) (c .before .before .add-row .ensures (symbol _ (s .args .m)) (rw (c .before .before .before .before .before .before .products-of .ensures) (multiplies _ _ (s .pre .0 .known))))))
+    let s = c .before .before .before .before .before .before .before .before in (
+      search needs,
+      search needs,
+      turns-same _ (λ S p r i hp hr hi. added-more _ (s .pre .0 .known) _ _ _ (s .pre .1 .2) _ S _ p r i)
+          (turns-both _ (c .before .before .before .before .before .loop .inv .2) (c .before .before .add-row .ensures (symbol _ (s .args .m)) (rw (c .before .before .before .before .before .before .products-of .ensures) (multiplies _ _ (s .pre .0 .known))))),
+    )
 
 same-length : tie.Need-same-length Inv-loop μ-loop
 same-length c = search needs

@@ -1,6 +1,6 @@
 -- Each turn compares the next symbol with the best so far.
 -- Assumes nothing.
-use mathlib.Core.Path.{_≡_, sym, ap, _∙_}
+use mathlib.Core.Path.{_≡_}
 use Prim.Native.Nat.{ℕ, _+_, _-_, _*_, _≤_, _<_}
 use native.Mathlib.Omega.{arith}
 use lib.ListN.{getD}
@@ -10,8 +10,6 @@ use Rattle.steps.proofs.VoteLaws.{best-first, best-higher, best-kept}
 use borrow.Author.Needs.{needs}
 use Rattle.steps.proofs.votes.best_of.Statement.{statement}
 use Rattle.steps.proofs.votes.best_of.Tie as tie
-use Rattle.steps.proofs.votes.best_of.Reads as reads
-use Rattle.steps.proofs.votes.best_of.Lts as lts
 
 abbrev Inv-loop : tie.InvT-loop
 Inv-loop q scores winner₀ a₀ winner a =
@@ -48,29 +46,39 @@ loop-less c = search needs
 
 loop-again : tie.Need-loop-again Inv-loop μ-loop
 loop-again c =
-    let z = sizes _ (c .before .before .before .pre) in
-    (search needs, omega arith, omega arith, λ f is.
-        let n : c .before .before .loop .a + 1 - 1 ≡ c .before .before .loop .a = omega arith in
-        rw n (best-higher f _ _ (c .before .before .loop .inv .3 f is) (omega arith) (rw (← is (c .before .before .loop .winner) (omega arith), ← is (c .before .before .loop .a) (omega arith)) (c .if1 .taken))))
+    let z = sizes _ (c .before .before .before .pre) in (
+      search needs,
+      omega arith,
+      omega arith,
+      λ f is.
+          let n : c .before .before .loop .a + 1 - 1 ≡ c .before .before .loop .a = omega arith in
+          rw n (best-higher f _ _ (c .before .before .loop .inv .3 f is) (omega arith) (rw (← is (c .before .before .loop .winner) (omega arith), ← is (c .before .before .loop .a) (omega arith)) (c .if1 .taken))),
+    )
 
 loop-less-2 : tie.Need-loop-less-2 Inv-loop μ-loop
 loop-less-2 c = search needs
 
 loop-again-2 : tie.Need-loop-again-2 Inv-loop μ-loop
 loop-again-2 c =
-    let z = sizes _ (c .before .before .before .pre) in
-    (search needs, omega arith, omega arith, λ f is.
-        let n : c .before .before .loop .a + 1 - 1 ≡ c .before .before .loop .a = omega arith in
-        rw n (best-kept f _ _ (c .before .before .loop .inv .3 f is) (omega arith) (rw (← is (c .before .before .loop .winner) (omega arith), ← is (c .before .before .loop .a) (omega arith)) (c .if1 .left))))
+    let z = sizes _ (c .before .before .before .pre) in (
+      search needs,
+      omega arith,
+      omega arith,
+      λ f is.
+          let n : c .before .before .loop .a + 1 - 1 ≡ c .before .before .loop .a = omega arith in
+          rw n (best-kept f _ _ (c .before .before .loop .inv .3 f is) (omega arith) (rw (← is (c .before .before .loop .winner) (omega arith), ← is (c .before .before .loop .a) (omega arith)) (c .if1 .left))),
+    )
 
 cast-result : tie.Need-cast-result Inv-loop μ-loop
 cast-result c = omega (arith, sizes _ (c .before .before .pre))
 
 returns : tie.Need-returns Inv-loop μ-loop
-returns c =
-    (omega arith, λ f is.
-        let n : c .before .loop .a ≡ c .before .before .args .q * c .before .before .args .q = omega arith in
-        rw n at (c .before .loop .inv .3 f is))
+returns c = (
+  omega arith,
+  λ f is.
+      let n : c .before .loop .a ≡ c .before .before .args .q * c .before .before .args .q = omega arith in
+      rw n at (c .before .loop .inv .3 f is),
+)
 
 pub best-of-spec : {M : Type 1} → statement M
 best-of-spec =

@@ -1,15 +1,12 @@
 -- The two tests of the definition.
 -- Assumes nothing.
-use Prim.Native.Nat.{_+_, _*_, _%_}
+use Prim.Native.Nat.{_+_, _%_}
 use native.Mathlib.Nat.{mod-lt, mul-le-mul}
 use native.Mathlib.Omega.{arith}
 use Rattle.steps.proofs.Sizes.{sizes}
 use Rattle.steps.proofs.VoteLaws.{voted-late, voted-is}
-use borrow.Author.Needs.{needs}
 use Rattle.steps.proofs.votes.is_voted.Statement.{statement}
 use Rattle.steps.proofs.votes.is_voted.Tie as tie
-use Rattle.steps.proofs.votes.is_voted.Reads as reads
-use Rattle.steps.proofs.votes.is_voted.Lts as lts
 
 returns : tie.Need-returns
 returns c = voted-late _ _ _ (c .if1 .taken)

@@ -3,11 +3,8 @@
 use mathlib.Core.Path.{sym, ap, _∙_}
 use lib.IntN.{natAbs}
 use Rattle.steps.proofs.Signed.{back, cast-fits, positive-yes, positive-no}
-use borrow.Author.Needs.{needs}
 use Rattle.steps.proofs.votes.positive_part.Statement.{statement}
 use Rattle.steps.proofs.votes.positive_part.Tie as tie
-use Rattle.steps.proofs.votes.positive_part.Reads as reads
-use Rattle.steps.proofs.votes.positive_part.Lts as lts
 
 cast-result : tie.Need-cast-result
 cast-result c =

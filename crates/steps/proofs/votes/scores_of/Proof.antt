@@ -1,12 +1,12 @@
 -- Each turn gives one pair's share; what a share is added to stays small.
 -- Assumes nothing.
-use mathlib.Core.Path.{_≡_, sym, ap, _∙_}
+use mathlib.Core.Path.{_≡_, ap, _∙_}
 use Prim.Native.Nat.{ℕ, _+_, _-_, _*_, _%_, _≤_, _<_}
 use native.Mathlib.Nat.{mod-eq-of-lt, mod-lt}
 use native.Mathlib.Omega.{arith}
 use lib.ListN.{length, getD, length-set}
 use Rattle.lists.specs.Tables.{tab}
-use Rattle.symbols.specs.Rule.{symbols, number}
+use Rattle.symbols.specs.Rule.{symbols}
 use Rattle.symbols.proofs.FieldLaws.{laws-of}
 use Rattle.published.specs.Pairing.{Pairing, score, positivePart}
 use Rattle.steps.specs.Pairs.{NumbersOf, pairAt}
@@ -16,9 +16,6 @@ use Rattle.steps.proofs.Signed.{back, positive-small}
 use borrow.Author.Needs.{needs}
 use Rattle.steps.proofs.votes.scores_of.Statement.{statement}
 use Rattle.steps.proofs.votes.scores_of.Tie as tie
-use Rattle.steps.proofs.votes.scores_of.Reads as reads
-use Rattle.steps.proofs.votes.scores_of.Lts as lts
-use Rattle.steps.proofs.votes.positive_part.Reads as positive-part-reads
 
 abbrev Inv-loop : tie.InvT-loop
 Inv-loop q pairs scores₀ i₀ scores i =
@@ -88,14 +85,16 @@ loop-again c =
     let small = mod-lt w {m = 16} (omega arith) in
     let room : w % 16 < length (c .before .before .before .before .before .loop .scores) = omega arith in
     let g = gain-is c in
-    let n : 2000 * c .before .before .before .before .before .loop .i + 2000 ≡ 2000 * (c .before .before .before .before .before .loop .i + 1) = omega arith in
-    (search needs, simp length-set (c .before .before .before .before .before .loop .inv .1),
-    rw (← n) (bounded-more (c .before .before .before .before .before .loop .scores) (w % 16) _ _ room (g .1) (c .before .before .before .before .before .loop .inv .2)),
-    λ P numbers a h.
-        let p = numbers (c .before .before .before .before .before .loop .i) (c .before .before .before .before .loop-test .taken) in
-        let below : w < 16 = rw (p .w) (omega (arith, laws-of _ (s .pre .0) .number-below (P (c .before .before .before .before .before .loop .i) .w), sizes _ (s .pre .0))) in
-        scores-more _ P (c .before .before .before .before .before .loop .scores) (c .before .before .before .before .before .loop .i) (w % 16) _ (mod-eq-of-lt below ∙ p .w) (g .0 ∙ ap positivePart (p .c))
-        (λ b hb. c .before .before .before .before .before .loop .inv .3 P numbers b (omega arith)) a (omega arith))
+    let n : 2000 * c .before .before .before .before .before .loop .i + 2000 ≡ 2000 * (c .before .before .before .before .before .loop .i + 1) = omega arith in (
+      search needs,
+      simp length-set (c .before .before .before .before .before .loop .inv .1),
+      rw (← n) (bounded-more (c .before .before .before .before .before .loop .scores) (w % 16) _ _ room (g .1) (c .before .before .before .before .before .loop .inv .2)),
+      λ P numbers a h.
+          let p = numbers (c .before .before .before .before .before .loop .i) (c .before .before .before .before .loop-test .taken) in
+          let below : w < 16 = rw (p .w) (omega (arith, laws-of _ (s .pre .0) .number-below (P (c .before .before .before .before .before .loop .i) .w), sizes _ (s .pre .0))) in
+          scores-more _ P (c .before .before .before .before .before .loop .scores) (c .before .before .before .before .before .loop .i) (w % 16) _ (mod-eq-of-lt below ∙ p .w) (g .0 ∙ ap positivePart (p .c))
+          (λ b hb. c .before .before .before .before .before .loop .inv .3 P numbers b (omega arith)) a (omega arith),
+    )
 
 returns : tie.Need-returns Inv-loop μ-loop
 returns c =

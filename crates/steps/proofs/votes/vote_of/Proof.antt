@@ -8,10 +8,6 @@ use Rattle.steps.proofs.VoteLaws.{vote-yes, vote-no}
 use borrow.Author.Needs.{needs}
 use Rattle.steps.proofs.votes.vote_of.Statement.{statement}
 use Rattle.steps.proofs.votes.vote_of.Tie as tie
-use Rattle.steps.proofs.votes.vote_of.Reads as reads
-use Rattle.steps.proofs.votes.vote_of.Lts as lts
-use Rattle.steps.proofs.votes.best_of.Reads as best-of-reads
-use Rattle.steps.proofs.votes.scores_of.Reads as scores-of-reads
 
 scores-of-requires : tie.Need-scores-of-requires
 scores-of-requires c κs = search needs
