@@ -171,10 +171,10 @@ module _ {𝓢 : Symbols} {q : ℕ} (𝓛 : Laws 𝓢 q) (row : List (𝓢 .K)) 
   start-g j hj = same-lower 𝓢 q hj (start-held (g q j) (omega arith)) (rule-g j hj)
 
   -- the degrees before the first step: 0 and q²
-  is-A : (i : ℕ) → i < q → degreeF 𝓢 q S i ≡ 0
+  pub is-A : (i : ℕ) → i < q → degreeF 𝓢 q S i ≡ 0
   is-A i hi = degreeF-is 𝓛 S i hi (start-f i hi) (omega (arith, start-fits q i (two-le-q 𝓛) hi))
 
-  is-D : (j : ℕ) → j < q → degreeG 𝓢 q S j ≡ q * q
+  pub is-D : (j : ℕ) → j < q → degreeG 𝓢 q S j ≡ q * q
   is-D j hj = degreeG-is 𝓛 S j hj (start-g j hj) (omega (arith, degree-fits q j (q * q) (two-le-q 𝓛) hj (omega arith)))
 
   -- every lead stands in its place before the first step

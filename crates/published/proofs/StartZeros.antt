@@ -52,7 +52,7 @@ module _ {𝓢 : Symbols} {q : ℕ} (𝓛 : Laws 𝓢 q) (𝓐 : Arranged 𝓢 q
   open Symbols 𝓢 using (K, 𝟘, 𝟙, _⊕_, _⊖_, minus, _⊗_, symbol)
 
   -- the y of point b in column a
-  Y : ℕ → ℕ → K
+  abbrev Y : ℕ → ℕ → K
   Y a b = pointAt 𝓢 q (a * q + b) .y
 
   -- the row's symbols by columns
@@ -61,15 +61,15 @@ module _ {𝓢 : Symbols} {q : ℕ} (𝓛 : Laws 𝓢 q) (𝓐 : Arranged 𝓢 q
 
   -- h is the closed form that interpolates them
   h-is : (j i : ℕ) → i < q * q → h 𝓢 q row j i ≡ interpolant 𝓢 q symbol Y received j i
-  unfolding interpolant received pointCount term Y
+  unfolding interpolant received pointCount term
   h-is j i hi =
       h-within 𝓢 q row j i hi ∙ sum-rows 𝓛 (q * q) q (term 𝓢 q row j i)
       ∙ sum-cong 𝓢 (q * q) (λ a ha. sum-cong 𝓢 q (λ b hb.
       ap (λ x. getD row (a * q + b) 𝟘 ⊗ (xPart 𝓢 q x i ⊗ yPart 𝓢 q (Y a b) j)) (𝓐 .abscissa a b ha hb)))
 
   -- the value of h at a point is the received symbol
-  h-value : (a b : ℕ) → a < q * q → b < q → valueAt 𝓢 q (q * q) (h 𝓢 q row) (symbol a) (Y a b) ≡ getD row (a * q + b) 𝟘
-  unfolding received Y
+  pub h-value : (a b : ℕ) → a < q * q → b < q → valueAt 𝓢 q (q * q) (h 𝓢 q row) (symbol a) (Y a b) ≡ getD row (a * q + b) 𝟘
+  unfolding received
   h-value a b ha hb =
       valueAt-cong 𝓢 q (q * q) (symbol a) (Y a b) (λ j i hj hi. h-is j i hi)
       ∙ interpolates 𝓛 (columns 𝓛 𝓐) received a b ha hb
@@ -129,7 +129,6 @@ module _ {𝓢 : Symbols} {q : ℕ} (𝓛 : Laws 𝓢 q) (𝓐 : Arranged 𝓢 q
   -- all 2q polynomials are zero at every point paired with the received symbol
   pub start-vanishes : (m : ℕ) → m < pointCount q → (p : ℕ) → p < 2 * q
       → Vanishes 𝓢 q (pointAt 𝓢 q m .x) (pointAt 𝓢 q m .y) (getD row m 𝟘) (coefficient 𝓢 q (start 𝓢 q row) p upper) (coefficient 𝓢 q (start 𝓢 q row) p lower)
-  unfolding Y
   start-vanishes = each-point q (λ m. (p : ℕ) → p < 2 * q → Vanishes 𝓢 q (pointAt 𝓢 q m .x) (pointAt 𝓢 q m .y) (getD row m 𝟘) (coefficient 𝓢 q (start 𝓢 q row) p upper) (coefficient 𝓢 q (start 𝓢 q row) p lower))
       (λ a b ha hb. rw (𝓐 .abscissa a b ha hb) (at a b ha hb))
     where

@@ -1,0 +1,5 @@
+mod Undamaged
+mod Differing
+mod RowNumbers
+mod Judgements
+pub mod ReadingBack

@@ -1,0 +1,38 @@
+-- Which weights are voted: the non-gaps up to u.
+-- Assumes nothing.
+use mathlib.Core.Path.{_≡_, refl, ap, _∙_}
+use mathlib.Core.Bool.{Bool, true, false, not, _&&_, and-false, false≢true}
+use Prim.Native.Nat.{ℕ, _≤_, _<_}
+use lib.Dec.{leb}
+use borrow.Author.Tests.{leb-true, le-leb, lt-leb}
+use Rattle.algebra.specs.Weights.{gap, nongap}
+use Rattle.published.specs.Pairing.{isVoted}
+
+-- both tests of an `and` hold
+pub both : (a b : Bool) → a && b ≡ true → (a ≡ true) × (b ≡ true)
+both true b t = (refl, t)
+both false b t = absurd (false≢true t)
+
+module _ (q u s : ℕ) where
+  -- a weight above u is not voted, nor is a gap
+  pub unvoted-above : u < s → isVoted q u s ≡ false
+  unfolding isVoted
+  unvoted-above h = rw (lt-leb s u h)
+
+  pub unvoted-gap : gap q s ≡ true → isVoted q u s ≡ false
+  unfolding isVoted nongap
+  unvoted-gap t = ap (λ b. leb s u && not b) t ∙ and-false (leb s u)
+
+  -- a non-gap of at most u is voted
+  pub is-voted : s ≤ u → nongap q s ≡ true → isVoted q u s ≡ true
+  unfolding isVoted
+  is-voted h t = rw (le-leb s u h) t
+
+  -- a voted weight is at most u, and no gap
+  pub voted-below : isVoted q u s ≡ true → s ≤ u
+  unfolding isVoted
+  voted-below t = leb-true s u (both (leb s u) (nongap q s) t .0)
+
+  pub voted-nongap : isVoted q u s ≡ true → nongap q s ≡ true
+  unfolding isVoted
+  voted-nongap t = both (leb s u) (nongap q s) t .1
