@@ -21,7 +21,8 @@ use Rattle.curve.proofs.Ranks.{nongaps-at, nongaps-rank, rank-below}
 use Rattle.published.specs.Steps.{messageOf}
 
 -- element m of the values of a function on a list
-pub getD-map {ℓ ℓ′} : {A : Type ℓ} {B : Type ℓ′} (e : A → B) (l : List A) (m : ℕ) (d : B) (d′ : A) → m < length l → getD (map e l) m d ≡ e (getD l m d′)
+getD-map {ℓ ℓ′} : {A : Type ℓ} {B : Type ℓ′} (e : A → B) (l : List A) (m : ℕ) (d : B) (d′ : A) → m < length l
+    → getD (map e l) m d ≡ e (getD l m d′)
 getD-map e [] m d d′ h = absurd (omega arith)
 getD-map e (a ∷ l) zero d d′ h = refl
 getD-map e (a ∷ l) (suc m) d d′ h = getD-map e l m d d′ (omega arith)
@@ -34,7 +35,8 @@ module _ (𝓢 : Symbols) (q : ℕ) (u : ℕ) where
   given votes P = messageAt 𝓢 q (nongaps q u) (messageOf 𝓢 q u votes) P
 
   -- symbol m of the voted message is the vote for number m of the non-gaps
-  pub message-vote : (votes : List K) (m : ℕ) → m < dimension q u → getD (messageOf 𝓢 q u votes) m 𝟘 ≡ getD votes (getD (nongaps q u) m 0) 𝟘
+  message-vote : (votes : List K) (m : ℕ) → m < dimension q u
+      → getD (messageOf 𝓢 q u votes) m 𝟘 ≡ getD votes (getD (nongaps q u) m 0) 𝟘
   unfolding messageOf dimension
   message-vote votes m h = getD-map (λ s. getD votes s 𝟘) (nongaps q u) m 𝟘 0 h
 
@@ -43,25 +45,35 @@ module _ {𝓢 : Symbols} {q : ℕ} (𝓛 : Laws 𝓢 q) (u : ℕ) (P : Point �
   infixl 70 _⊗_
   open Symbols 𝓢 using (K, 𝟘, _⊕_, _⊖_, _⊗_)
 
+  -- the monomial of s at P
+  abbrev φ : ℕ → K
+  φ s = monomialAt 𝓢 q s (P .x) (P .y)
+
   -- the term of number m of the non-gaps
   term : List K → ℕ → K
-  term votes m = getD votes (getD (nongaps q u) m 0) 𝟘 ⊗ monomialAt 𝓢 q (getD (nongaps q u) m 0) (P .x) (P .y)
+  term votes m = getD votes (getD (nongaps q u) m 0) 𝟘 ⊗ φ (getD (nongaps q u) m 0)
 
+  -- what the votes give, term by term
   given-sum : (votes : List K) → given 𝓢 q u votes P ≡ sum 𝓢 (dimension q u) (term votes)
   unfolding given messageAt term dimension
   given-sum votes =
-      sum-cong 𝓢 (dimension q u) (λ m hm. ap (λ a. a ⊗ monomialAt 𝓢 q (getD (nongaps q u) m 0) (P .x) (P .y)) (message-vote 𝓢 q u votes m hm))
+      sum-cong 𝓢 (dimension q u) (λ m hm. ap (λ a. a ⊗ φ (getD (nongaps q u) m 0)) (message-vote 𝓢 q u votes m hm))
 
   -- the same votes give the same
-  given-cong : (votes votes′ : List K) → ((s : ℕ) → getD votes s 𝟘 ≡ getD votes′ s 𝟘) → given 𝓢 q u votes P ≡ given 𝓢 q u votes′ P
+  given-cong : (votes votes′ : List K) → ((s : ℕ) → getD votes s 𝟘 ≡ getD votes′ s 𝟘)
+      → given 𝓢 q u votes P ≡ given 𝓢 q u votes′ P
   unfolding term
   given-cong votes votes′ e =
-      given-sum votes ∙ sum-cong 𝓢 (dimension q u) (λ m hm. ap (λ a. a ⊗ monomialAt 𝓢 q (getD (nongaps q u) m 0) (P .x) (P .y)) (e (getD (nongaps q u) m 0))) ∙ sym (given-sum votes′)
+      given-sum votes
+      ∙ sum-cong 𝓢 (dimension q u) (λ m hm. ap (λ a. a ⊗ φ (getD (nongaps q u) m 0)) (e (getD (nongaps q u) m 0)))
+      ∙ sym (given-sum votes′)
 
   -- no vote gives nothing
   pub given-none : (n : ℕ) → given 𝓢 q u (replicate n 𝟘) P ≡ 𝟘
   unfolding term
-  given-none n = given-sum (replicate n 𝟘) ∙ sum-none 𝓛 (dimension q u) (λ m hm. ap (λ a. a ⊗ monomialAt 𝓢 q (getD (nongaps q u) m 0) (P .x) (P .y)) (zeros (getD (nongaps q u) m 0)) ∙ simp (units, 𝓛))
+  given-none n =
+      given-sum (replicate n 𝟘) ∙ sum-none 𝓛 (dimension q u) (λ m hm.
+      ap (λ a. a ⊗ φ (getD (nongaps q u) m 0)) (zeros (getD (nongaps q u) m 0)) ∙ simp (units, 𝓛))
     where
       zeros : (s : ℕ) → getD (replicate n 𝟘) s 𝟘 ≡ 𝟘
       zeros s = elim (decLt s n) [
@@ -72,7 +84,7 @@ module _ {𝓢 : Symbols} {q : ℕ} (𝓛 : Laws 𝓢 q) (u : ℕ) (P : Point �
   -- a vote for a weight that had none
   module _ (votes : List K) (s : ℕ) (w : K) (within : s < length votes) (fresh : getD votes s 𝟘 ≡ 𝟘) where
     -- the vote 0 changes nothing
-    given-zero : w ≡ 𝟘 → given 𝓢 q u (set votes s w) P ≡ given 𝓢 q u votes P ⊕ w ⊗ monomialAt 𝓢 q s (P .x) (P .y)
+    given-zero : w ≡ 𝟘 → given 𝓢 q u (set votes s w) P ≡ given 𝓢 q u votes P ⊕ w ⊗ φ s
     given-zero e = given-cong (set votes s w) votes same ∙ rw e (simp (ring, 𝓛))
       where
         same : (n : ℕ) → getD (set votes s w) n 𝟘 ≡ getD votes n 𝟘
@@ -82,7 +94,7 @@ module _ {𝓢 : Symbols} {q : ℕ} (𝓛 : Laws 𝓢 q) (u : ℕ) (P : Point �
         ]
 
     -- any other adds its term, in one place
-    given-voted : s ≤ u → nongap q s ≡ true → given 𝓢 q u (set votes s w) P ≡ given 𝓢 q u votes P ⊕ w ⊗ monomialAt 𝓢 q s (P .x) (P .y)
+    given-voted : s ≤ u → nongap q s ≡ true → given 𝓢 q u (set votes s w) P ≡ given 𝓢 q u votes P ⊕ w ⊗ φ s
     unfolding term
     given-voted below t = linear 𝓛 difference (simp (given-sum, ring, 𝓛))
       where
@@ -91,22 +103,24 @@ module _ {𝓢 : Symbols} {q : ℕ} (𝓛 : Laws 𝓢 q) (u : ℕ) (P : Point �
 
         other : (m : ℕ) → m < dimension q u → m ≢ rank q s → term (set votes s w) m ⊖ term votes m ≡ 𝟘
         other m hm ne =
-            ap (λ a. a ⊗ monomialAt 𝓢 q (getD (nongaps q u) m 0) (P .x) (P .y) ⊖ term votes m)
-            (getD-set-other votes s (getD (nongaps q u) m 0) w 𝟘 (λ e. ne (sym (nongaps-rank q u m hm) ∙ ap (rank q) e)))
-            ∙ simp (ring, 𝓛)
+            let n = getD (nongaps q u) m 0 in
+            let apart = getD-set-other votes s n w 𝟘 (λ e. ne (sym (nongaps-rank q u m hm) ∙ ap (rank q) e)) in
+            ap (λ a. a ⊗ φ n ⊖ term votes m) apart ∙ simp (ring, 𝓛)
 
-        own : term (set votes s w) (rank q s) ⊖ term votes (rank q s) ≡ w ⊗ monomialAt 𝓢 q s (P .x) (P .y)
+        own : term (set votes s w) (rank q s) ⊖ term votes (rank q s) ≡ w ⊗ φ s
         own =
-            ap (λ n. getD (set votes s w) n 𝟘 ⊗ monomialAt 𝓢 q n (P .x) (P .y) ⊖ getD votes n 𝟘 ⊗ monomialAt 𝓢 q n (P .x) (P .y)) here
-            ∙ ap₂ (λ a b. a ⊗ monomialAt 𝓢 q s (P .x) (P .y) ⊖ b ⊗ monomialAt 𝓢 q s (P .x) (P .y)) (getD-set-same votes s w 𝟘 within) fresh
-            ∙ simp (ring, 𝓛)
+            ap (λ n. getD (set votes s w) n 𝟘 ⊗ φ n ⊖ getD votes n 𝟘 ⊗ φ n) here
+            ∙ ap₂ (λ a b. a ⊗ φ s ⊖ b ⊗ φ s) (getD-set-same votes s w 𝟘 within) fresh ∙ simp (ring, 𝓛)
 
-        difference : sum 𝓢 (dimension q u) (term (set votes s w)) ⊖ sum 𝓢 (dimension q u) (term votes) ≡ w ⊗ monomialAt 𝓢 q s (P .x) (P .y)
+        difference : sum 𝓢 (dimension q u) (term (set votes s w)) ⊖ sum 𝓢 (dimension q u) (term votes) ≡ w ⊗ φ s
         difference =
-            sym (sum-sub 𝓛 (dimension q u) (term (set votes s w)) (term votes))
-            ∙ sum-single 𝓛 (dimension q u) (rank q s) (λ m. term (set votes s w) m ⊖ term votes m) (rank-below q u s t below) other ∙ own
+            let new = term (set votes s w) in
+            let old = term votes in
+            sym (sum-sub 𝓛 (dimension q u) new old)
+            ∙ sum-single 𝓛 (dimension q u) (rank q s) (λ m. new m ⊖ old m) (rank-below q u s t below) other ∙ own
 
-    -- so the symbol that is left at P is less by the term
+    -- so what is left of a symbol r is less by the term
     pub given-less : (r : K) → (w ≡ 𝟘) ⊎ ((s ≤ u) × (nongap q s ≡ true))
-        → r ⊖ given 𝓢 q u votes P ⊖ w ⊗ monomialAt 𝓢 q s (P .x) (P .y) ≡ r ⊖ given 𝓢 q u (set votes s w) P
-    given-less r how = linear 𝓛 (⊎-elim given-zero (λ (v : (s ≤ u) × (nongap q s ≡ true)). given-voted (v .0) (v .1)) how) (simp (ring, 𝓛))
+        → r ⊖ given 𝓢 q u votes P ⊖ w ⊗ φ s ≡ r ⊖ given 𝓢 q u (set votes s w) P
+    given-less r how =
+        linear 𝓛 (⊎-elim given-zero (λ (v : (s ≤ u) × (nongap q s ≡ true)). given-voted (v .0) (v .1)) how) (simp (ring, 𝓛))

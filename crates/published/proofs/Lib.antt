@@ -1,10 +1,15 @@
+pub mod Tests
+pub mod Widths
+pub mod Parts
 pub mod Reading
 pub mod Simultaneous
 pub mod Degrees
 pub mod PairNumbers
+pub mod PairSymbols
 pub mod PairStep
 pub mod InPlace
 pub mod Substitution
+pub mod PairGap
 pub mod PairRule
 pub mod OneStep
 pub mod StartLeads
@@ -12,4 +17,6 @@ pub mod StartZeros
 pub mod Given
 pub mod After
 pub mod Greatest
+pub mod Bytes
+pub mod NothingLost
 pub mod MeaningAfter

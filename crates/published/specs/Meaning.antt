@@ -21,7 +21,8 @@ use Rattle.curve.specs.Codes.{pointCount, nongaps}
 use Rattle.curve.specs.Rows.{messageAt}
 use Rattle.published.specs.Start.{Polynomials, width, startWeight, upper, lower, f, g, h, table, startPart}
 use Rattle.published.specs.Pairing.{pairing, vote, positivePart, negativePart}
-use Rattle.published.specs.Steps.{substitutedPart, substituted, raisedPart, reducedPart, ratio, updated, pairings, after}
+use Rattle.published.specs.Steps.{substitutedPart, substituted, raisedPart, reducedPart, ratio}
+use Rattle.published.specs.Steps.{updated, pairings, after}
 use Rattle.published.specs.Picture.{place}
 
 -- "After t steps the weight in force is the start weight less t (so -1 at the end)"
@@ -33,6 +34,14 @@ pub record Monomial : Type 0 where
   pub part : ℕ
   pub y : ℕ
   pub x : ℕ
+
+-- z x^i y^j
+abbrev pub inUpper : ℕ → ℕ → Monomial
+inUpper j i = record { part = upper; y = j; x = i }
+
+-- x^i y^j
+abbrev pub inLower : ℕ → ℕ → Monomial
+inLower j i = record { part = lower; y = j; x = i }
 
 -- "Under weight s an upper monomial weighs s more"
 unfoldable pub weighs : ℕ → ℤ → Monomial → ℤ
@@ -69,7 +78,9 @@ module _ (𝓢 : Symbols) (q : ℕ) where
   -- the value of polynomial p at a point paired with the symbol z
   unfoldable pub valueWith : List ℕ → ℕ → Point 𝓢 q → K → K
   valueWith work p P z =
-      z ⊗ valueAt 𝓢 q (width q) (partIn work p upper) (P .x) (P .y) ⊕ valueAt 𝓢 q (width q) (partIn work p lower) (P .x) (P .y)
+      let U = valueAt 𝓢 q (width q) (partIn work p upper) (P .x) (P .y) in
+      let L = valueAt 𝓢 q (width q) (partIn work p lower) (P .x) (P .y) in
+      z ⊗ U ⊕ L
 
   -- the received symbol at point m less what the votes, by rising non-gap, give there
   unfoldable pub unexplained : ℕ → List ℕ → List ℕ → ℕ → K
@@ -106,8 +117,8 @@ module _ (𝓢 : Symbols) (q : ℕ) where
     -- "The leading term of g_i is then in the lower part at y^i, that of f_i in the upper part at y^i"
     pub degreeG : ℕ → ℕ
     pub degreeF : ℕ → ℕ
-    pub leadingG : (i : ℕ) → i < q → Leading (weightAfter q t) (partIn work (g q i)) (record { part = lower; y = i; x = degreeG i })
-    pub leadingF : (i : ℕ) → i < q → Leading (weightAfter q t) (partIn work (f q i)) (record { part = upper; y = i; x = degreeF i })
+    pub leadingG : (i : ℕ) → i < q → Leading (weightAfter q t) (partIn work (g q i)) (inLower i (degreeG i))
+    pub leadingF : (i : ℕ) → i < q → Leading (weightAfter q t) (partIn work (f q i)) (inUpper i (degreeF i))
     -- the leading degrees in x add up to n
     pub degrees : total q degreeG + total q degreeF ≡ pointCount q
     -- no degree in x passes q²+2q-2: not in the area, and not in what the rules gave to it

@@ -18,7 +18,8 @@ use Rattle.curve.proofs.Arranged.{Arranged}
 use Rattle.published.specs.Start.{Polynomials, start, startWeight, stepCount}
 use Rattle.published.specs.Pairing.{Pairing, pairing, vote, isVoted}
 use Rattle.published.specs.Steps.{State, noPair, updated, pairings, step, after, substituted}
-use Rattle.published.proofs.Simultaneous.{decided, changed-kept}
+use Rattle.published.proofs.Tests.{decided}
+use Rattle.published.proofs.Simultaneous.{changed-kept}
 use Rattle.decoder.proofs.Undamaged.Remaining.{below}
 use Rattle.decoder.proofs.Undamaged.Interpolated.{valuesOf}
 use Rattle.decoder.proofs.Undamaged.Begun.{begun}

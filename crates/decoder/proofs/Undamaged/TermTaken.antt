@@ -18,7 +18,7 @@ use Rattle.curve.proofs.Arranged.{Arranged}
 use Rattle.published.specs.Start.{Polynomials, coefficient, polynomials, upper, lower, f, g, h, table, startPart, start, one, negated}
 use Rattle.published.specs.Steps.{substituted, substitutedPart}
 use Rattle.published.proofs.Reading.{each-polynomial}
-use Rattle.published.proofs.Simultaneous.{decided}
+use Rattle.published.proofs.Tests.{decided}
 use Rattle.decoder.proofs.Undamaged.Products.{alike-ys, alike-monomial, timesYs-plus, monomial-timesYs}
 use Rattle.decoder.proofs.Undamaged.Remaining.{below, below-same, below-less}
 use Rattle.decoder.proofs.Undamaged.Interpolated.{valuesOf, values-same}
