@@ -3,12 +3,11 @@
 -- Assumes nothing.
 use mathlib.Core.Path.{_≡_, sym, ap, ap₂, _∙_}
 use mathlib.Core.Logic.{_≢_, ⊎-elim}
-use mathlib.Core.Bool.{true, false}
+use mathlib.Core.Bool.{true}
 use mathlib.Core.List.{List}
 use Prim.Native.Nat.{ℕ, _*_, _≤_, _<_}
 use native.Mathlib.Decide.{ℕ-discrete}
 use native.Mathlib.Omega.{arith}
-use lib.Dec.{ltb}
 use lib.ListN.{getD}
 use borrow.Author.Tests.{lt-ltb, le-ltb}
 use Rattle.algebra.specs.Symbols.{Symbols, Laws, sum}
@@ -25,20 +24,19 @@ use Rattle.curve.specs.Points.{Point}
 use Rattle.curve.specs.Codes.{nongaps, dimension}
 use Rattle.curve.specs.Ranks.{rank}
 use Rattle.curve.specs.Rows.{messageAt}
+use Rattle.curve.specs.MessageFunction.{messageFunction}
 use Rattle.curve.proofs.Ranks.{rank-below, nongaps-at, nongaps-small, nongaps-pass, nongaps-rank}
 
 module _ (𝓢 : Symbols) (q : ℕ) where
   open Symbols 𝓢 using (K, 𝟘)
 
-  -- the coefficient of x^i y^j is the message's symbol for its weight; no weight above u has one
-  unfoldable pub messageFunction : ℕ → List K → Fn 𝓢 q
-  messageFunction u message j i = elim (ltb u (weight q j i)) [ true ↦ 𝟘 | false ↦ getD message (rank q (weight q j i)) 𝟘 ]
-
-  pub function-in : (u : ℕ) (message : List K) (j i : ℕ) → weight q j i ≤ u → messageFunction u message j i ≡ getD message (rank q (weight q j i)) 𝟘
+  -- a weight of at most u has the message's symbol for it
+  pub function-in : (u : ℕ) (message : List K) (j i : ℕ) → weight q j i ≤ u → messageFunction 𝓢 q u message j i ≡ getD message (rank q (weight q j i)) 𝟘
   unfolding messageFunction
   function-in u message j i h = rw (le-ltb u (weight q j i) h, messageFunction)
 
-  pub function-out : (u : ℕ) (message : List K) (j i : ℕ) → u < weight q j i → messageFunction u message j i ≡ 𝟘
+  -- no weight above u has one
+  pub function-out : (u : ℕ) (message : List K) (j i : ℕ) → u < weight q j i → messageFunction 𝓢 q u message j i ≡ 𝟘
   unfolding messageFunction
   function-out u message j i h = rw (lt-ltb u (weight q j i) h, messageFunction)
 

@@ -12,8 +12,9 @@ use Rattle.lists.proofs.Tables.{length-tab, getD-tab, tab-of, map-tab}
 use Rattle.curve.specs.Points.{points, pointAt}
 use Rattle.curve.specs.Codes.{pointCount, nongaps}
 use Rattle.curve.specs.Rows.{messageAt, rowOf}
+use Rattle.curve.specs.MessageFunction.{messageFunction}
 use Rattle.curve.proofs.Arranged.{Arranged}
-use Rattle.curve.proofs.MessageFunction.{messageFunction, function-value}
+use Rattle.curve.proofs.MessageFunction.{function-value}
 
 -- "n = q³", multiplied the other way
 pub count-is : (q : ℕ) → pointCount q ≡ q * (q * q)

@@ -4,3 +4,4 @@ pub mod Rows
 pub mod Ranks
 pub mod Answers
 pub mod Ordinates
+pub mod MessageFunction

@@ -1,8 +1,124 @@
-// A message becomes its row.
+// A message becomes its row. Each symbol of the row is the value of the message's function at a point, and the points above one
+// x share the values there of the polynomials in x that stand at the powers of y.
+use curve::Monomial;
 use refusals::Refusal;
+ghost use mathlib.Core.Path.{_≡_};
+ghost use mathlib.Core.List.{_++_};
+ghost use Prim.Native.Nat.{_+_, _*_, _<_, _≤_};
+ghost use lib.ListN.{length, drop};
+ghost use Rattle.symbols.specs.Rule.{Known};
+ghost use Rattle.curve.specs.Codes.{pointCount, dimension};
+ghost use Rattle.encoder.specs.Stages.{Encodable, IsValue, IsSpread, IsColumn, IsFibre};
+ghost use Rattle.encoder.specs.Encoding.{rowNumbers, encodeAnswer, encodeOutput};
 
 // What encoding answers.
 pub enum Encoded {
     Done,
     Refused(Refusal),
+}
+
+// Horner's rule: the value of the polynomial with these coefficients at the symbol whose products these are.
+fn value_in(products: &[u8; 16], coefficients: &[u8]) -> u8
+    requires { ⌜ 0 < length (now coefficients) ⌝ }
+    ensures { λ r. ⌜ IsValue (now (products .entry)) (now (coefficients .entry)) r ⌝ }
+{
+    let mut i = coefficients.len() - 1;
+    let mut value = coefficients[i];
+    while 0 < i {
+        i -= 1;
+        value = products[(value % 16) as usize] ^ coefficients[i];
+    }
+    value
+}
+
+// The message's symbols in the places of their monomials: sixteen places for each power of y.
+fn spread(q: usize, u: usize, message: &[u8]) -> [u8; 64]
+    requires { ⌜ Known q × (u < pointCount q) × (length (now message) ≡ dimension q u) ⌝ }
+    ensures { λ r. ⌜ IsSpread q (u + 1) (now (message .entry)) r ⌝ }
+{
+    let mut places = [0u8; 64];
+    let mut taken = 0;
+    let mut s = 0;
+    while s <= u {
+        let monomial = curve::monomial_of(q, s);
+        s += 1;
+        if let Monomial::Powers { x, y } = monomial {
+            places[y * 16 + x] = message[taken];
+            taken += 1;
+        }
+    }
+    places
+}
+
+// The values at x of the polynomials in x that stand at the powers of y.
+fn column(q: usize, x: u8, places: &[u8], width: usize) -> [u8; 4]
+    requires { ⌜ Known q × (0 < width) × (width ≤ 16) × (length (now places) ≡ 64) ⌝ }
+    ensures { λ r. ⌜ IsColumn q width x (now (places .entry)) r ⌝ }
+{
+    let products = symbols::products_of(q, x);
+    let mut values = [0u8; 4];
+    let mut j = 0;
+    while j < q {
+        let start = j * 16;
+        let end = start + width;
+        values[j] = value_in(&products, &places[start..end]);
+        j += 1;
+    }
+    values
+}
+
+// The symbols of the row at the points above x, from the values there.
+fn fill_fibre(q: usize, x: usize, values: &[u8], row: &mut [u8])
+    requires { ⌜ Known q × (x < q * q) × (length (now values) ≡ 4) × (pointCount q ≤ length (now row)) ⌝ }
+    ensures { λ r. ⌜ IsFibre q x (now (values .entry)) (now (row .entry)) (now (row .exit)) ⌝ }
+{
+    let ordinates = curve::ordinates(q, x as u8);
+    let start = x * q;
+    let mut b = 0;
+    while b < q {
+        let products = symbols::products_of(q, ordinates[b]);
+        row[start + b] = value_in(&products, &values[..q]);
+        b += 1;
+    }
+}
+
+// The row of a message, written to the first n places. A row of the tape code takes 992 products: at each of the 16 x eleven
+// for each of the 4 powers of y, six for x⁵, and then three at each of the 4 points above it.
+pub fn encode_row(q: usize, u: usize, message: &[u8], row: &mut [u8])
+    requires { ⌜ Encodable q u (now message) (now row) ⌝ }
+    ensures { λ r. ⌜ now (row .exit) ≡ rowNumbers q u (now (message .entry)) ++ drop (pointCount q) (now (row .entry)) ⌝ }
+{
+    let places = spread(q, u, message);
+    let width = u / q + 1;
+    let mut x = 0;
+    while x < q * q {
+        let values = column(q, x as u8, &places, width);
+        fill_fibre(q, x, &values, row);
+        x += 1;
+    }
+}
+
+// Encoding, for all inputs: refused with 1, 2, 4, 5 or 7, or done with the row in the first n places. The promise is two
+// equations, so any two answers and any two outputs that it allows are equal.
+pub fn encode(q: usize, u: usize, message: &[u8], output: &mut [u8]) -> Encoded
+    ensures { λ r. ⌜ r ≡ encodeAnswer q u (now (message .entry)) (now (output .entry)) ⌝ }
+    ensures { λ r. ⌜ now (output .exit) ≡ encodeOutput q u (now (message .entry)) (now (output .entry)) ⌝ }
+{
+    if !symbols::is_known(q) {
+        return Encoded::Refused(Refusal::UnknownQ);
+    }
+    if !curve::is_code(q, u) {
+        return Encoded::Refused(Refusal::NoCode);
+    }
+    if message.len() != curve::dimension(q, u) {
+        return Encoded::Refused(Refusal::WrongLength);
+    }
+    if !symbols::all_symbols(q, message) {
+        return Encoded::Refused(Refusal::NoSymbol);
+    }
+    if output.len() < curve::point_count(q) {
+        return Encoded::Refused(Refusal::ShortOutput);
+    }
+    encode_row(q, u, message, output);
+    Encoded::Done
 }

@@ -1,6 +1,6 @@
 -- A list with a run of its places replaced: its length, what stands where, and how runs and stores follow one another.
 -- Assumes nothing.
-use mathlib.Core.Path.{_≡_, refl, ap, sym, _∙_, subst}
+use mathlib.Core.Path.{_≡_, refl, ap, ap₂, sym, _∙_, subst}
 use mathlib.Core.Logic.{_⊎_, inl, inr, ⊎-elim}
 use mathlib.Core.List.{List, _++_}
 use Prim.Native.Nat.{ℕ, zero, suc, _+_, _-_, _≤_, _<_}
@@ -29,6 +29,10 @@ module _ {ℓ} {A : Type ℓ} where
   pub put-more : (l : List A) (at n : ℕ) (f : ℕ → A) → set (put l at n f) (at + n) (f n) ≡ put l at (n + 1) f
   unfolding put
   put-more l at n f = rw add-one
+
+  -- one place more of a run from the first place on
+  pub put-next : (l : List A) (n : ℕ) (f : ℕ → A) (v : A) → v ≡ f n → set (put l 0 n f) n v ≡ put l 0 (n + 1) f
+  put-next l n f v e = ap₂ (λ (i : ℕ) (a : A). set (put l 0 n f) i a) (sym (zero-add n)) e ∙ put-more l 0 n f
 
   -- outside the run nothing changes
   pub put-out : (l : List A) (at n : ℕ) (f : ℕ → A) (k : ℕ) (d : A) → (k < at) ⊎ (at + n ≤ k) → getD (put l at n f) k d ≡ getD l k d

@@ -3,13 +3,15 @@
 use mathlib.Core.Path.{_≡_, sym, ap, ap₂, _∙_}
 use Prim.Native.Nat.{ℕ, _+_, _*_, _%_, _<_, _≤_}
 use native.Mathlib.Nat.{mod-lt, mod-eq-of-lt, zero-add}
+use native.Mathlib.Omega.{arith}
 use lib.ListN.{getD, replicate}
 use Rattle.lists.specs.Tables.{from, tab, joinFrom, join, put}
 use Rattle.lists.proofs.Tables.{length-tab, getD-tab, getD-join}
 use Rattle.lists.proofs.Put.{put-same, put-in}
-use Rattle.symbols.specs.Rule.{size, some, reducedBy, twice, chosen, product, powerOf, inverseOf, Below, into, symbols, number, symbol}
+use Rattle.symbols.specs.Rule.{size, some, reducedBy, twice, chosen, product, powerOf, inverseOf, Below, into, Known, Sym, symbols, number, symbol}
 use Rattle.symbols.specs.Tables.{productNumber, inverseNumber, productTable, inverseTable, productRow, after}
-use Rattle.symbols.proofs.Bytes.{symbol-of-remainder}
+use Rattle.symbols.proofs.FieldLaws.{laws-of}
+use Rattle.symbols.proofs.Bytes.{size-known, square-small, symbol-of-remainder}
 
 -- opens all that the tables are computed with
 unfoldable pub computing : Unit {0}
@@ -53,3 +55,11 @@ row-of-table q a = put-same (replicate 16 0) 0 (size q) (after (productTable q) 
 pub row-at : (q a b : ℕ) → size q ≤ 16 → b < size q → getD (productRow q a) b 0 ≡ number q (symbols q ._⊗_ (symbol q a) (symbol q b))
 unfolding productRow productNumber
 row-at q a b fit h = ap (λ k. getD (productRow q a) k 0) (sym (zero-add b)) ∙ put-in (replicate 16 0) 0 (size q) (productNumber q a) b 0 h (rw zero-add fit)
+
+-- the same at a symbol's number, taken as a loop takes a byte
+pub row-number : (q : ℕ) → Known q → (a : ℕ) (s : Sym q) → getD (productRow q a) (number q s % 16) 0 ≡ number q (symbols q ._⊗_ (symbol q a) s)
+row-number q k a s =
+    let small : number q s < size q = rw (size-known q k) (laws-of q k .number-below s) in
+    let fits : size q ≤ 16 = rw (size-known q k) (square-small q k) in
+    let low : number q s < 16 = omega arith in
+    rw (mod-eq-of-lt low) (row-at q a (number q s) fits small ∙ ap (λ t. number q (symbols q ._⊗_ (symbol q a) t)) (laws-of q k .symbol-number s))

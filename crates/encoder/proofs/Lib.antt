@@ -1,0 +1,6 @@
+mod Horner
+mod Spreading
+mod Values
+mod RowNumbers
+mod Written
+mod EncodeChecks

@@ -1,0 +1,124 @@
+-- `encoder::encode_row` meets its contract. The loop's invariant: the columns passed are written. Assumes nothing.
+use mathlib.Core.Path.{_≡_, refl, sym, _∙_}
+use Prim.Native.Nat.{_+_, _-_, _*_, _/_, _≤_}
+use native.Mathlib.Nat.{div-le-self, zero-mul}
+use native.Mathlib.Omega.{arith}
+use lib.ListN.{length}
+use denote.Ref.{now}
+use borrow.Author.Needs.{needs}
+use Rattle.lists.specs.Tables.{put}
+use Rattle.lists.proofs.Put.{put-none}
+use Rattle.symbols.proofs.Bytes.{known-positive, square-small}
+use Rattle.curve.proofs.Sizes.{count-small}
+use Rattle.curve.proofs.CodeLaws.{code-below}
+use Rattle.encoder.proofs.RowNumbers.{rowNumber, function, spread-function}
+use Rattle.encoder.proofs.Written.{width-small, column-holds, next-column, all-columns}
+use Rattle.encoder.proofs.encode_row.Statement.{statement}
+use Rattle.encoder.proofs.encode_row.Tie as tie
+
+abbrev Inv-loop : tie.InvT-loop
+Inv-loop q u message row₀ places width x₀ row x =
+    (x ≤ q * q) × (length row ≡ length row₀) × (row ≡ put row₀ 0 (x * q) (rowNumber q u message))
+
+abbrev μ-loop : tie.MeasureT-loop
+μ-loop q u message row₀ places width x₀ row x = q * q - x
+
+spread-requires : tie.Need-spread-requires Inv-loop μ-loop
+spread-requires c κs =
+    let pre = c .before .before .pre in
+    (pre .known, code-below _ _ (pre .code), pre .long)
+
+div-width : tie.Need-div-width Inv-loop μ-loop
+div-width c = known-positive _ (c .before .before .before .pre .known)
+
+add-width : tie.Need-add-width Inv-loop μ-loop
+add-width c =
+    let start = c .before .before .before in
+    omega (arith, div-le-self (start .args .u) (start .args .q), code-below _ _ (start .pre .code), count-small _ (start .pre .known))
+
+loop-holds : tie.Need-loop-holds Inv-loop μ-loop
+loop-holds c = (omega arith, refl, rw zero-mul (sym (put-none _ _ _)))
+
+mul-loop : tie.Need-mul-loop Inv-loop μ-loop
+mul-loop c = omega (arith, square-small _ (c .before .before .before .before .pre .known))
+
+cast-column : tie.Need-cast-column Inv-loop μ-loop
+cast-column c = omega (arith, square-small _ (c .before .before .before .before .before .pre .known))
+
+slice-aggregate-column : tie.Need-slice-aggregate-column Inv-loop μ-loop
+slice-aggregate-column c = search needs
+
+column-requires : tie.Need-column-requires Inv-loop μ-loop
+column-requires c κs =
+    let start = c .before .before .before .before .before .before in
+    (start .pre .known, omega arith, omega (arith, width-small (start .args .q) (start .args .u) (start .pre .known) (code-below _ _ (start .pre .code))), search needs)
+
+slice-aggregate-fill-fibre : tie.Need-slice-aggregate-fill-fibre Inv-loop μ-loop
+slice-aggregate-fill-fibre c = search needs
+
+fill-fibre-requires : tie.Need-fill-fibre-requires Inv-loop μ-loop
+fill-fibre-requires c κs =
+    let at = c .before .before .before .before .before in
+    let start = at .before .before .before .before in
+    (start .pre .known, omega arith, search needs, omega (arith, start .pre .room, at .loop .inv .1))
+
+add-x : tie.Need-add-x Inv-loop μ-loop
+add-x c =
+    let start = c .before .before .before .before .before .before .before .before .before .before .before .before in
+    omega (arith, square-small _ (start .pre .known))
+
+loop-less : tie.Need-loop-less Inv-loop μ-loop
+loop-less c = search needs
+
+loop-again : tie.Need-loop-again Inv-loop μ-loop
+loop-again c =
+    let at = c .before .before .before .before .before .before .before .before in
+    let start = at .before .before .before .before in
+    let q = start .args .q in
+    let u = start .args .u in
+    let message = now (start .args .message) in
+    let k = start .pre .known in
+    let small = code-below q u (start .pre .code) in
+    let f = function q u message k in
+    let places = spread-function q u message k (start .pre .symbolic) (start .pre .long) (at .before .spread .result) (at .before .spread .ensures) in
+    let values = c .before .before .before .before .before .column in
+    let held = column-holds q k f (u / q + 1) (at .loop .x) (values .result) (values .ensures f places) in (
+      omega arith,
+      c .before .before .fill-fibre .kept .1 .1 .1 .0 ∙ at .loop .inv .1,
+      c .before .before .fill-fibre .ensures _ held
+          ∙ (rw (at .loop .inv .2) (next-column q u message k small (now (start .args .row)) (at .loop .x) (omega arith))),
+    )
+
+same-length : tie.Need-same-length Inv-loop μ-loop
+same-length c = c .before .loop .inv .1
+
+returns : tie.Need-returns Inv-loop μ-loop
+returns c =
+    let at = c .before in
+    let start = at .before .before .before .before in
+    let q = start .args .q in
+    let message = now (start .args .message) in
+    let end : at .loop .x ≡ q * q = omega arith in
+    at .loop .inv .2 ∙ (rw end (all-columns q (start .args .u) message (start .pre .known) (now (start .args .row)) (start .pre .room)))
+
+pub encode-row-spec : {M : Type 1} → statement M
+encode-row-spec =
+    tie.close
+    (tie.spec
+    Inv-loop
+    μ-loop
+    spread-requires
+    div-width
+    add-width
+    loop-holds
+    mul-loop
+    cast-column
+    slice-aggregate-column
+    column-requires
+    slice-aggregate-fill-fibre
+    fill-fibre-requires
+    add-x
+    loop-less
+    loop-again
+    same-length
+    returns)

@@ -1,0 +1,64 @@
+-- The two stages of encoding: the polynomials in x that stand at the powers of y are evaluated at an x, and then, at each y above
+-- it, the polynomial in y that has these values.
+-- Assumes nothing.
+use mathlib.Core.Path.{_≡_}
+use mathlib.Core.Bool.{true, false}
+use mathlib.Core.List.{List}
+use Prim.Native.Nat.{ℕ, _+_, _*_, _≤_, _<_}
+use lib.Dec.{ltb}
+use lib.ListN.{length, getD, replicate}
+use Rattle.algebra.specs.Weights.{weight}
+use Rattle.algebra.specs.Functions.{Fn, valueIn}
+use Rattle.lists.specs.Tables.{put}
+use Rattle.symbols.specs.Rule.{Known, Sym, symbols, number, symbol, anyBeyond}
+use Rattle.symbols.specs.Tables.{productRow}
+use Rattle.curve.specs.Points.{pointAt}
+use Rattle.curve.specs.Codes.{pointCount, isCode, dimension}
+use Rattle.curve.specs.Ranks.{rank}
+
+-- a message of the code and a row with room for what it becomes
+pub record Encodable (q u : ℕ) (message row : List ℕ) : Type 0 where
+  pub known : Known q
+  pub code : isCode q u ≡ true
+  pub long : length message ≡ dimension q u
+  pub symbolic : anyBeyond q message ≡ false
+  pub room : pointCount q ≤ length row
+
+-- the first n bytes are the numbers of α 0, α 1, ..
+abbrev pub Holds : (q : ℕ) → (ℕ → Sym q) → ℕ → List ℕ → Type 0
+Holds q α n bytes = (i : ℕ) → i < n → getD bytes i 0 ≡ number q (α i)
+
+-- with the products of a, whatever they are, the value at a of the polynomial with these coefficients
+abbrev pub IsValue : List ℕ → List ℕ → ℕ → Type 0
+IsValue products coefficients value =
+    (q a : ℕ) (α : ℕ → Sym q) → Known q → products ≡ productRow q a → Holds q α (length coefficients) coefficients
+    → value ≡ number q (valueIn (symbols q) q (length coefficients) α (symbol q a))
+
+-- the message's byte for the weight of x^i y^j, if that is below s
+unfoldable pub placed : ℕ → ℕ → List ℕ → ℕ → ℕ → ℕ
+placed q s message j i = elim (ltb (weight q j i) s) [ true ↦ getD message (rank q (weight q j i)) 0 | false ↦ 0 ]
+
+-- sixteen bytes for each power of y: those of the message in their places
+abbrev pub IsSpread : ℕ → ℕ → List ℕ → List ℕ → Type 0
+IsSpread q s message bytes = (j i : ℕ) → j < q → i < 16 → getD bytes (j * 16 + i) 0 ≡ placed q s message j i
+
+-- sixteen bytes for each power of y: the numbers of a function's coefficients
+abbrev pub HoldsFunction : (q : ℕ) → Fn (symbols q) q → List ℕ → Type 0
+HoldsFunction q f bytes = (j i : ℕ) → j < q → i < 16 → getD bytes (j * 16 + i) 0 ≡ number q (f j i)
+
+-- the value at x of the polynomial in x that stands at y^j
+unfoldable pub columnNumber : (q : ℕ) → Fn (symbols q) q → ℕ → ℕ → ℕ → ℕ
+columnNumber q f width x j = number q (valueIn (symbols q) q width (f j) (symbol q x))
+
+-- the values of all of them
+abbrev pub IsColumn : ℕ → ℕ → ℕ → List ℕ → List ℕ → Type 0
+IsColumn q width x coefficients values =
+    (f : Fn (symbols q) q) → HoldsFunction q f coefficients → values ≡ put (replicate 4 0) 0 q (columnNumber q f width x)
+
+-- the value at y number b above x number a of the polynomial in y with coefficients v
+unfoldable pub fibreNumber : (q : ℕ) → (ℕ → Sym q) → ℕ → ℕ → ℕ
+fibreNumber q v a b = number q (valueIn (symbols q) q q v (pointAt (symbols q) q (a * q + b) .y))
+
+-- the places of x number a hold its values
+abbrev pub IsFibre : ℕ → ℕ → List ℕ → List ℕ → List ℕ → Type 0
+IsFibre q a values old new = (v : ℕ → Sym q) → Holds q v q values → new ≡ put old (a * q) q (fibreNumber q v a)
