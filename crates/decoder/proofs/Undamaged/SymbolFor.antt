@@ -13,7 +13,8 @@ use Rattle.algebra.proofs.WeightLaws.{nongap-weight}
 use Rattle.curve.specs.Codes.{nongaps, dimension}
 use Rattle.curve.specs.Ranks.{rank}
 use Rattle.curve.proofs.Ranks.{nongaps-small, nongaps-pass, nongaps-rank}
-use Rattle.curve.proofs.MessageFunction.{messageFunction, function-in, function-out}
+use Rattle.curve.specs.MessageFunction.{messageFunction}
+use Rattle.curve.proofs.MessageFunction.{function-in, function-out}
 use Rattle.published.specs.Pairing.{isVoted}
 use Rattle.decoder.proofs.Undamaged.VotedWeights.{is-voted, unvoted-above}
 use Rattle.decoder.proofs.Undamaged.Remaining.{below, below-in, below-out}
