@@ -10,3 +10,4 @@ mod Signed
 mod Coefficients
 mod PairNumbers
 mod VoteLaws
+mod ChangeLaws

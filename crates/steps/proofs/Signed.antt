@@ -193,3 +193,17 @@ pub positive-small : (z : ℤ) → positivePart z ≤ natAbs z
 unfolding positivePart
 positive-small (pos n) = omega arith
 positive-small (negsuc n) = omega arith
+
+-- -c, where c is not positive
+module _ (z : ℤ) (h : natAbs z ≤ 2000) (d : Unraised z) where
+  minus-is : pos 0 -ℤ toZ w64 (ofZ w64 z) ≡ pos (negativePart z)
+  minus-is = rw (back z h) (d .shift)
+
+  pub minus-fits : SFits w64 (pos 0 -ℤ toZ w64 (ofZ w64 z))
+  minus-fits = rw minus-is (record { sfits = omega (arith, d .small) })
+
+  pub minus-value : toZ w64 (ofZ w64 (pos 0 -ℤ toZ w64 (ofZ w64 z))) ≡ pos (negativePart z)
+  minus-value = toZ-ofZ w64 _ minus-fits ∙ minus-is
+
+  pub minus-cast : T (nonNeg (toZ w64 (ofZ w64 (pos 0 -ℤ toZ w64 (ofZ w64 z))))) × Fits w64 (natAbs (toZ w64 (ofZ w64 (pos 0 -ℤ toZ w64 (ofZ w64 z)))))
+  minus-cast = rw minus-value (tt, omega (arith, d .small))

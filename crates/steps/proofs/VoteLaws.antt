@@ -1,7 +1,7 @@
 -- Scores pair by pair, the best symbol number by number, and which steps vote.
 -- Assumes nothing.
 use mathlib.Core.Path.{_≡_, refl, sym, ap, _∙_}
-use mathlib.Core.Bool.{true, false, cond}
+use mathlib.Core.Bool.{true, false, cond, not}
 use mathlib.Core.List.{List, [], _∷_, _++_}
 use mathlib.Core.Logic.{⊎-elim}
 use Prim.Native.Nat.{ℕ, zero, suc, _+_, _-_, _*_, _%_, _<_, _≤_}
@@ -25,14 +25,10 @@ pub voted-late : (q u s : ℕ) → u < s → false ≡ isVoted q u s
 unfolding isVoted
 voted-late q u s h = rw (lt-leb s u h)
 
-pub voted-is : (q u s : ℕ) → s ≤ u → leb ((q + 1) * (s % q)) s ≡ isVoted q u s
-unfolding isVoted nongap gap
-voted-is q u s h =
-    rw (le-leb s u h)
-    (⊎-elim
-    (λ (l : s < (q + 1) * (s % q)). rw (lt-leb ((q + 1) * (s % q)) s l, lt-ltb s ((q + 1) * (s % q)) l))
-    (λ (l : (q + 1) * (s % q) ≤ s). rw (le-leb ((q + 1) * (s % q)) s l, le-ltb s ((q + 1) * (s % q)) l))
-    (lt-or-ge s ((q + 1) * (s % q))))
+-- else those that are no gap
+pub voted-is : (q u s : ℕ) → s ≤ u → not (gap q s) ≡ isVoted q u s
+unfolding isVoted nongap
+voted-is q u s h = rw (le-leb s u h)
 
 module _ (q : ℕ) where
   -- what a pair gives to the score of a

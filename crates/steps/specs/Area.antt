@@ -14,7 +14,7 @@ use Rattle.lists.specs.Tables.{put}
 use Rattle.symbols.specs.Rule.{Known, symbols, number}
 use Rattle.published.specs.Start.{Polynomials, coefficient, width}
 use Rattle.published.specs.Pairing.{degree}
-use Rattle.published.specs.Picture.{areaSize, layout}
+use Rattle.published.specs.Picture.{areaSize, layout, picture}
 use Rattle.steps.specs.declared.reading.Leading.{Leading}
 use Rattle.steps.specs.declared.products.Part.{Part}
 
@@ -103,6 +103,10 @@ module _ (q : ℕ) where
   -- bytes that start with the cells S start after the code with the cells `change S`, and what comes after them stays
   pub record Turns (before after : List ℕ) (change : Cells → Cells) : Type 0 where
     pub shows : (S : Cells) (rest : List ℕ) → before ≡ shown S ++ rest → after ≡ shown (change S) ++ rest
+
+  -- bytes that start with the picture of S start after the code with the picture of T, and what comes after it stays
+  pub record Becomes (before after : List ℕ) (S T : Polynomials (symbols q) q) : Type 0 where
+    pub shows : (rest : List ℕ) → before ≡ picture (symbols q) q S ++ rest → after ≡ picture (symbols q) q T ++ rest
 
   -- `products` is the table row of ρ
   pub record Multiplies (products : List ℕ) (ρ : K) : Type 0 where

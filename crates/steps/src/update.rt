@@ -1,10 +1,15 @@
 // The update of a pair: one polynomial reduced by another, or both exchanged.
 use crate::area;
+use crate::pairs::Pair;
 ghost use mathlib.Core.Path.{_≡_};
 ghost use Prim.Native.Nat.{_*_, _<_};
 ghost use lib.ListN.{length};
-ghost use Rattle.symbols.specs.Rule.{symbol};
-ghost use Rattle.steps.specs.Area.{Area, Turns, polynomialAdded, polynomialsExchanged};
+ghost use Rattle.symbols.specs.Rule.{Known, symbols, Sym, number, symbol};
+ghost use Rattle.published.specs.Start.{Polynomials};
+ghost use Rattle.published.specs.Pairing.{Pairing};
+ghost use Rattle.published.specs.Steps.{ratio, changed};
+ghost use Rattle.steps.specs.Area.{Area, Turns, Becomes, polynomialAdded, polynomialsExchanged};
+ghost use Rattle.steps.specs.Pairs.{Held, NumbersOf};
 
 // Polynomial f becomes f + m·x^shift·g.
 fn add_polynomial(work: &mut [u8], q: usize, f: usize, g: usize, shift: usize, m: u8)
@@ -28,4 +33,34 @@ fn exchange_polynomials(work: &mut [u8], q: usize, f: usize, g: usize, shift: us
     for r in 0..2 * q {
         area::exchange_row(work, q, f, g, r, shift, products);
     }
+}
+
+// r = μ_i(w + w_i)/ν.
+fn ratio_of(q: usize, vote: u8, w: u8, mu: u8, nu: u8) -> u8
+    requires { ⌜ Known q ⌝ }
+    ensures { λ r. ⌜ ((ω : Sym q) (P : Pairing (symbols q) q) → vote ≡ number q ω → w ≡ number q (P .w) → mu ≡ number q (P .μ) → nu ≡ number q (P .ν) → r ≡ number q (ratio (symbols q) q ω P)) ⌝ }
+{
+    let product = symbols::product(q, mu, vote ^ w);
+    let inverse = symbols::inverse(q, nu);
+    symbols::product(q, product, inverse)
+}
+
+// What pair i does after the substitution: c's sign picks the update, and -c is the shift where c is not positive.
+fn change(work: &mut [u8], q: usize, i: usize, pair: Pair, vote: u8)
+    requires { ⌜ Area q (length (now work)) ⌝ }
+    requires { ⌜ (i < q) × Held q pair ⌝ }
+    ensures { λ _. ⌜ ((S : Polynomials (symbols q) q) (ω : Sym q) (P : Pairing (symbols q) q) → vote ≡ number q ω → NumbersOf q pair P → Becomes q (now (work .entry)) (now (work .exit)) S (changed (symbols q) q ω i P S)) ⌝ }
+{
+    let w = pair.w;
+    if w == vote {
+        return;
+    }
+    let ratio = ratio_of(q, vote, w, pair.mu, pair.nu);
+    let partner = pair.partner;
+    let c = pair.c;
+    if 0 < c {
+        exchange_polynomials(work, q, q + i, partner, c as usize, ratio);
+        return;
+    }
+    add_polynomial(work, q, q + i, partner, -c as usize, ratio);
 }

@@ -17,7 +17,7 @@ pub fn is_voted(q: usize, u: usize, s: usize) -> bool
     if u < s {
         return false;
     }
-    (q + 1) * (s % q) <= s
+    !curve::is_gap(q, s)
 }
 
 // max(c, 0)

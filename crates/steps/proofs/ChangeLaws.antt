@@ -1,0 +1,203 @@
+-- What a pair does to the polynomials, by document 01's three cases, is what the code does to the cells.
+-- Assumes nothing.
+use mathlib.Core.Path.{_≡_, refl, sym, ap, _∙_, subst}
+use mathlib.Core.Bool.{Bool, true, false}
+use mathlib.Core.List.{List, []}
+use mathlib.Core.Logic.{⊎-elim}
+use Prim.Native.Nat.{ℕ, _+_, _*_, _/_, _%_, _<_}
+use native.Mathlib.Omega.{arith}
+use lib.Bits.{bitXor}
+use lib.Dec.{eqb, ltb}
+use lib.ListN.{getD}
+use borrow.Author.Tests.{eq-eqb, ne-eqb, le-ltb}
+use Rattle.algebra.specs.Symbols.{Symbols, same}
+use Rattle.algebra.specs.Functions.{Fn, shift, timesX}
+use Rattle.lists.specs.Tables.{tab}
+use Rattle.lists.proofs.Numbers.{same-or-not}
+use Rattle.lists.proofs.Tables.{getD-tab}
+use Rattle.symbols.specs.Rule.{Known, symbols, Sym, number, symbol}
+use Rattle.symbols.proofs.FieldLaws.{laws-of}
+use Rattle.symbols.proofs.Bytes.{number-of-sum, minus-is-plus}
+use Rattle.published.specs.Start.{Polynomial, Polynomials, coefficient, polynomial, width}
+use Rattle.published.specs.Pairing.{Pairing, positivePart, negativePart}
+use Rattle.published.specs.Steps.{raisedPart, reducedPart, replaced, exchanged, ratio, changed}
+use Rattle.published.specs.Picture.{picture}
+use Rattle.steps.specs.Area.{Cells, cellsOf, shown, Turns, Becomes, withRows, plusMultiple, raisedPlus, polynomialAdded, polynomialsExchanged}
+use Rattle.steps.proofs.Cells.{picture-is, shown-same, rows-in, rows-out}
+use Rattle.steps.proofs.RowLaws.{plus-is, raised-is}
+use Rattle.steps.proofs.Coefficients.{held, cell-held, held-polynomial}
+use Rattle.steps.proofs.Signed.{Unraised}
+
+-- a change of cells that makes the cells of T of those of S
+pub becomes : (q : ℕ) {before after : List ℕ} {S T : Polynomials (symbols q) q} (change : Cells q → Cells q) → Turns q before after change
+    → ((p r i : ℕ) → p < 2 * q → r < 2 * q → i < width q → change (cellsOf q S) p r i ≡ cellsOf q T p r i) → Becomes q before after S T
+becomes q {S = S} {T = T} change t same =
+    record {
+      shows = λ rest e.
+        t .shows (cellsOf q S) rest (rw (← picture-is q S) e)
+        ∙ (rw (shown-same q (change (cellsOf q S)) (cellsOf q T) same, ← picture-is q T));
+    }
+
+module _ (q : ℕ) (known : Known q) (S : Polynomials (symbols q) q) where
+  infixl 65 _⊕_ _⊖_
+  infixl 70 _⊗_
+  open Symbols (symbols q) using (K, _⊕_, _⊖_, _⊗_)
+
+  -- a polynomial of a table of polynomials
+  in-table : (G : ℕ → Polynomial (symbols q) q) (p r n : ℕ) → p < 2 * q → cellsOf q (tab (2 * q) G) p r n ≡ held q (G p) r n
+  in-table G p r n hp = cell-held q (tab (2 * q) G) p r n ∙ ap (λ (F : Polynomial (symbols q) q). held q F r n) (getD-tab (2 * q) G p [] hp)
+
+  -- f_i - ρ·x^c·g is f_i + ρ·x^c·g
+  reduced-cell : (i g c : ℕ) (ρ : K) (r n : ℕ) → r < 2 * q → n < width q
+      → plusMultiple q (cellsOf q S (q + i) r) ρ c (cellsOf q S g r) n ≡ held q (polynomial (symbols q) q (reducedPart (symbols q) q S i g c ρ)) r n
+  unfolding reducedPart timesX cellsOf
+  reduced-cell i g c ρ r n hr hn =
+      plus-is q known (cellsOf q S (q + i) r) ρ c (cellsOf q S g r) n
+      ∙ sym (minus-is-plus q (cellsOf q S (q + i) r n) (ρ ⊗ shift (symbols q) q c (cellsOf q S g r) n))
+      ∙ sym (held-polynomial q (reducedPart (symbols q) q S i g c ρ) r n hr hn)
+
+  -- x^c·f_i - ρ·g is x^c·f_i + ρ·g
+  raised-cell : (i g c : ℕ) (ρ : K) (r n : ℕ) → r < 2 * q → n < width q
+      → raisedPlus q (cellsOf q S (q + i) r) ρ c (cellsOf q S g r) n ≡ held q (polynomial (symbols q) q (raisedPart (symbols q) q S i g c ρ)) r n
+  unfolding raisedPart timesX cellsOf
+  raised-cell i g c ρ r n hr hn =
+      raised-is q known (cellsOf q S (q + i) r) ρ c (cellsOf q S g r) n
+      ∙ sym (minus-is-plus q (shift (symbols q) q c (cellsOf q S (q + i) r) n) (ρ ⊗ cellsOf q S g r n))
+      ∙ sym (held-polynomial q (raisedPart (symbols q) q S i g c ρ) r n hr hn)
+
+  -- a row of a polynomial whose rows are all replaced
+  all-rows : (p : ℕ) (F : ℕ → ℕ → K) (T : Cells q) (r n : ℕ) → r < 2 * q → withRows q p 0 (2 * q) F T p r n ≡ F r n
+  all-rows p F T r n hr =
+      let z : 0 + r ≡ r = omega arith in
+      ap (λ (k : ℕ). withRows q p 0 (2 * q) F T p k n) (sym z) ∙ rows-in q p 0 (2 * q) F T r n hr
+
+  -- "new f_i is f_i - r·x^(-c)·g_i'"
+  pub replaced-cells : (i g c : ℕ) (ρ : K) (p r n : ℕ) → p < 2 * q → r < 2 * q → n < width q
+      → polynomialAdded q (q + i) g c ρ (2 * q) (cellsOf q S) p r n
+      ≡ cellsOf q (replaced (symbols q) q i (polynomial (symbols q) q (reducedPart (symbols q) q S i g c ρ)) S) p r n
+  unfolding polynomialAdded replaced
+  replaced-cells i g c ρ p r n hp hr hn =
+      ⊎-elim
+      (λ (e : p ≡ q + i).
+          rw e
+          (all-rows (q + i) F (cellsOf q S) r n hr
+          ∙ reduced-cell i g c ρ r n hr hn
+          ∙ sym (chosen (q + i) true (eq-eqb (q + i) (q + i) refl))
+          ∙ sym (in-table new (q + i) r n (rw e at hp))))
+      (λ ne.
+          rows-out q (q + i) 0 (2 * q) F (cellsOf q S) p r n (λ e. absurd (ne e))
+          ∙ cell-held q S p r n
+          ∙ sym (chosen p false (ne-eqb p (q + i) ne))
+          ∙ sym (in-table new p r n hp))
+      (same-or-not p (q + i))
+    where
+      F : ℕ → ℕ → K
+      F r = plusMultiple q (cellsOf q S (q + i) r) ρ c (cellsOf q S g r)
+      made : Polynomial (symbols q) q
+      made = polynomial (symbols q) q (reducedPart (symbols q) q S i g c ρ)
+      pick : ℕ → Bool → Polynomial (symbols q) q
+      pick p t = elim t [ true ↦ made | false ↦ getD S p [] ]
+      new : ℕ → Polynomial (symbols q) q
+      new p = pick p (eqb p (q + i))
+      chosen : (p : ℕ) (t : Bool) → eqb p (q + i) ≡ t → held q (new p) r n ≡ held q (pick p t) r n
+      chosen p t e = ap (λ (b : Bool). held q (pick p b) r n) e
+
+  -- "new g_i' is f_i; new f_i is x^c f_i - r·g_i'"
+  pub exchanged-cells : (i g c : ℕ) (ρ : K) → g < q → (p r n : ℕ) → p < 2 * q → r < 2 * q → n < width q
+      → polynomialsExchanged q (q + i) g c ρ (2 * q) (cellsOf q S) p r n
+      ≡ cellsOf q (exchanged (symbols q) q i g (polynomial (symbols q) q (raisedPart (symbols q) q S i g c ρ)) S) p r n
+  unfolding polynomialsExchanged exchanged
+  exchanged-cells i g c ρ hg p r n hp hr hn =
+      ⊎-elim
+      (λ (e : p ≡ q + i).
+          rw e
+          (rows-out q g 0 (2 * q) (cellsOf q S (q + i)) above (q + i) r n (λ z. absurd (omega arith))
+          ∙ all-rows (q + i) F (cellsOf q S) r n hr
+          ∙ raised-cell i g c ρ r n hr hn
+          ∙ sym (chosen (q + i) true (eqb (q + i) g) (eq-eqb (q + i) (q + i) refl) refl)
+          ∙ sym (in-table new (q + i) r n (rw e at hp))))
+      (λ ne. ⊎-elim
+          (λ (e : p ≡ g).
+              rw e
+              (all-rows g (cellsOf q S (q + i)) above r n hr
+              ∙ cell-held q S (q + i) r n
+              ∙ sym (chosen g false true (ne-eqb g (q + i) (λ z. omega arith)) (eq-eqb g g refl))
+              ∙ sym (in-table new g r n (rw e at hp))))
+          (λ ng.
+              rows-out q g 0 (2 * q) (cellsOf q S (q + i)) above p r n (λ e. absurd (ng e))
+              ∙ rows-out q (q + i) 0 (2 * q) F (cellsOf q S) p r n (λ e. absurd (ne e))
+              ∙ cell-held q S p r n
+              ∙ sym (chosen p false false (ne-eqb p (q + i) ne) (ne-eqb p g ng))
+              ∙ sym (in-table new p r n hp))
+          (same-or-not p g))
+      (same-or-not p (q + i))
+    where
+      F : ℕ → ℕ → K
+      F r = raisedPlus q (cellsOf q S (q + i) r) ρ c (cellsOf q S g r)
+      above : Cells q
+      above = withRows q (q + i) 0 (2 * q) F (cellsOf q S)
+      made : Polynomial (symbols q) q
+      made = polynomial (symbols q) q (raisedPart (symbols q) q S i g c ρ)
+      pick : ℕ → Bool → Bool → Polynomial (symbols q) q
+      pick p t t′ = elim t [ true ↦ made | false ↦ elim t′ [ true ↦ getD S (q + i) [] | false ↦ getD S p [] ] ]
+      new : ℕ → Polynomial (symbols q) q
+      new p = pick p (eqb p (q + i)) (eqb p g)
+      chosen : (p : ℕ) (t t′ : Bool) → eqb p (q + i) ≡ t → eqb p g ≡ t′ → held q (new p) r n ≡ held q (pick p t t′) r n
+      chosen p t t′ e e′ = ap (λ (b : Bool). held q (pick p b (eqb p g)) r n) e ∙ ap (λ (b : Bool). held q (pick p t b) r n) e′
+
+  module _ (ω : K) (i : ℕ) (P : Pairing (symbols q) q) where
+    abbrev chosen : Bool → Bool → Polynomials (symbols q) q
+    chosen t t′ =
+        elim t [
+          | true ↦ S
+          | false ↦ elim t′ [
+            | true ↦ exchanged (symbols q) q i (P .partner) (polynomial (symbols q) q (raisedPart (symbols q) q S i (P .partner) (positivePart (P .c)) (ratio (symbols q) q ω P))) S
+            | false ↦ replaced (symbols q) q i (polynomial (symbols q) q (reducedPart (symbols q) q S i (P .partner) (negativePart (P .c)) (ratio (symbols q) q ω P))) S
+          ]
+        ]
+
+    changed-is : (t t′ : Bool) → eqb (number q (P .w)) (number q ω) ≡ t → ltb 0 (positivePart (P .c)) ≡ t′ → changed (symbols q) q ω i P S ≡ chosen t t′
+    unfolding changed same
+    changed-is t t′ e e′ =
+        subst (λ (b : Bool). changed (symbols q) q ω i P S ≡ chosen b t′) e
+        (subst (λ (b : Bool). changed (symbols q) q ω i P S ≡ chosen (eqb (number q (P .w)) (number q ω)) b) e′ refl)
+
+    -- "w_i = w: no more change"
+    pub unchanged : number q (P .w) ≡ number q ω → changed (symbols q) q ω i P S ≡ S
+    unchanged e = changed-is true (ltb 0 (positivePart (P .c))) (eq-eqb _ _ e) refl
+
+    -- "w_i ≠ w, c > 0"
+    pub changed-raised : (number q (P .w) ≡ number q ω → ⊥) → ltb 0 (positivePart (P .c)) ≡ true → P .partner < q
+        → (p r n : ℕ) → p < 2 * q → r < 2 * q → n < width q
+        → polynomialsExchanged q (q + i) (P .partner) (positivePart (P .c)) (ratio (symbols q) q ω P) (2 * q) (cellsOf q S) p r n
+        ≡ cellsOf q (changed (symbols q) q ω i P S) p r n
+    changed-raised ne up hg p r n hp hr hn =
+        exchanged-cells i (P .partner) (positivePart (P .c)) (ratio (symbols q) q ω P) hg p r n hp hr hn
+        ∙ ap (λ (T : Polynomials (symbols q) q). cellsOf q T p r n) (sym (changed-is false true (ne-eqb _ _ ne) up))
+
+    -- "w_i ≠ w, c ≤ 0"
+    pub changed-reduced : (number q (P .w) ≡ number q ω → ⊥) → positivePart (P .c) ≡ 0 → (p r n : ℕ) → p < 2 * q → r < 2 * q → n < width q
+        → polynomialAdded q (q + i) (P .partner) (negativePart (P .c)) (ratio (symbols q) q ω P) (2 * q) (cellsOf q S) p r n
+        ≡ cellsOf q (changed (symbols q) q ω i P S) p r n
+    changed-reduced ne none p r n hp hr hn =
+        replaced-cells i (P .partner) (negativePart (P .c)) (ratio (symbols q) q ω P) p r n hp hr hn
+        ∙ ap (λ (T : Polynomials (symbols q) q). cellsOf q T p r n) (sym (changed-is false false (ne-eqb _ _ ne) (le-ltb 0 (positivePart (P .c)) (omega arith))))
+
+-- the code's r
+pub ratio-is : (q : ℕ) → Known q → (ω : Sym q) (P : Pairing (symbols q) q) (vote w mu nu product inverse r : ℕ)
+    → vote ≡ number q ω → w ≡ number q (P .w) → mu ≡ number q (P .μ) → nu ≡ number q (P .ν)
+    → product ≡ number q (symbols q ._⊗_ (symbol q mu) (symbol q (bitXor vote w)))
+    → inverse ≡ number q (symbols q .inverse (symbol q nu))
+    → r ≡ number q (symbols q ._⊗_ (symbol q product) (symbol q inverse))
+    → r ≡ number q (ratio (symbols q) q ω P)
+unfolding ratio
+ratio-is q known ω P vote w mu nu product inverse r ev ew eu en ep ei er =
+    let back = laws-of q known .symbol-number in
+    let difference : bitXor (number q ω) (number q (P .w)) ≡ number q (symbols q ._⊖_ ω (P .w)) =
+        number-of-sum q known ω (P .w) ∙ ap (number q) (sym (minus-is-plus q ω (P .w))) in
+    er
+    ∙ (rw (ep, ei, eu, en, ev, ew, difference, back (P .μ), back (P .ν), back (symbols q ._⊖_ ω (P .w)), back (symbols q .inverse (P .ν)), back (symbols q ._⊗_ (P .μ) (symbols q ._⊖_ ω (P .w)))))
+
+-- nothing changes, in the bytes and in the polynomials
+pub becomes-same : (q : ℕ) {before : List ℕ} (S T : Polynomials (symbols q) q) → T ≡ S → Becomes q before before S T
+becomes-same q S T e = record { shows = λ rest d. rw e d }
