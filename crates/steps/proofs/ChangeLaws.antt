@@ -201,3 +201,7 @@ ratio-is q known ω P vote w mu nu product inverse r ev ew eu en ep ei er =
 -- nothing changes, in the bytes and in the polynomials
 pub becomes-same : (q : ℕ) {before : List ℕ} (S T : Polynomials (symbols q) q) → T ≡ S → Becomes q before before S T
 becomes-same q S T e = record { shows = λ rest d. rw e d }
+
+-- one change after the other
+pub becomes-then : (q : ℕ) {before between after : List ℕ} {S T U : Polynomials (symbols q) q} → Becomes q before between S T → Becomes q between after T U → Becomes q before after S U
+becomes-then q b b′ = record { shows = λ rest e. b′ .shows rest (b .shows rest e) }

@@ -11,3 +11,4 @@ mod Coefficients
 mod PairNumbers
 mod VoteLaws
 mod ChangeLaws
+mod ReplaceLaws

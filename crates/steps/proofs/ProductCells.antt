@@ -25,13 +25,14 @@ module _ (q : ℕ) (known : Known q) where
   open Symbols (symbols q) using (K, 𝟘, _⊕_, _⊖_, _⊗_)
 
   -- x^a·y^b times functions that agree in the powers of y below q
-  product-cong : (a b : ℕ) (F G : ℕ → ℕ → K) → ((j i : ℕ) → j < q → F j i ≡ G j i) → (j i : ℕ) → j < q
+  pub product-cong : (a b : ℕ) (F G : ℕ → ℕ → K) → ((j i : ℕ) → j < q → F j i ≡ G j i) → (j i : ℕ) → j < q
       → timesX (symbols q) q a (timesYs (symbols q) q b F) j i ≡ timesX (symbols q) q a (timesYs (symbols q) q b G) j i
   unfolding timesX
   product-cong a b F G h j i hj = shift-cong (symbols q) q a i (λ n. timesYs-cong (symbols q) q F G h b j n hj)
 
   module _ (to from : Part) (a b : ℕ) (ρ : K) where
-    plusProduct-is : (S : Cells q) (j i : ℕ) → plusProduct q to from a b ρ S j i
+    -- a row of a part plus a product
+    pub plusProduct-is : (S : Cells q) (j i : ℕ) → plusProduct q to from a b ρ S j i
         ≡ functionOf q to S j i ⊕ ρ ⊗ timesX (symbols q) q a (timesYs (symbols q) q b (functionOf q from S)) j i
     unfolding plusProduct
     plusProduct-is S j i = refl

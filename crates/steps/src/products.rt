@@ -1,10 +1,15 @@
 // Products by monomials: ρ·x^a·y^b times one part of a polynomial added to another part, and the substitution for z.
 use crate::area;
+use curve::Monomial;
 ghost use mathlib.Core.Path.{_≡_};
 ghost use Prim.Native.Nat.{_+_, _*_, _<_, _≤_};
 ghost use lib.ListN.{length};
-ghost use Rattle.symbols.specs.Rule.{Sym, symbol};
-ghost use Rattle.steps.specs.Area.{Area, Apart, Turns, Multiplies, sourceRow, sourceShift, productRowAdded, productAdded, replacedZ};
+ghost use mathlib.Core.Bool.{false};
+ghost use Rattle.algebra.specs.Weights.{gap};
+ghost use Rattle.symbols.specs.Rule.{symbols, Sym, number, symbol};
+ghost use Rattle.published.specs.Start.{Polynomials};
+ghost use Rattle.published.specs.Steps.{substituted};
+ghost use Rattle.steps.specs.Area.{Area, Apart, Turns, Becomes, Multiplies, sourceRow, sourceShift, productRowAdded, productAdded, replacedZ};
 
 // A part of a polynomial: its q rows from `row` on.
 pub struct Part {
@@ -107,4 +112,20 @@ pub fn replace_z(work: &mut [u8], q: usize, a: usize, b: usize, m: u8)
         };
         add_product(work, q, lower, upper, a, b, products);
     }
+}
+
+// z becomes z + vote·(monomial of s) in all polynomials, and nothing changes for a vote of 0.
+pub fn substitute(work: &mut [u8], q: usize, s: usize, vote: u8)
+    requires { ⌜ Area q (length (now work)) ⌝ }
+    requires { ⌜ (s ≤ 1000) × ((vote ≡ 0 → ⊥) → gap q s ≡ false) ⌝ }
+    ensures { λ _. ⌜ ((S : Polynomials (symbols q) q) (ω : Sym q) → vote ≡ number q ω → Becomes q (now (work .entry)) (now (work .exit)) S (substituted (symbols q) q s ω S)) ⌝ }
+{
+    if vote == 0 {
+        return;
+    }
+    let monomial = curve::monomial_of(q, s);
+    let Monomial::Powers { x, y } = monomial else {
+        return;
+    };
+    replace_z(work, q, x, y, vote);
 }

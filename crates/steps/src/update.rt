@@ -2,14 +2,15 @@
 use crate::area;
 use crate::pairs::Pair;
 ghost use mathlib.Core.Path.{_≡_};
-ghost use Prim.Native.Nat.{_*_, _<_};
+ghost use Prim.Native.Nat.{ℕ, _*_, _<_};
 ghost use lib.ListN.{length};
+ghost use Rattle.lists.specs.Tables.{tab};
 ghost use Rattle.symbols.specs.Rule.{Known, symbols, Sym, number, symbol};
 ghost use Rattle.published.specs.Start.{Polynomials};
 ghost use Rattle.published.specs.Pairing.{Pairing};
-ghost use Rattle.published.specs.Steps.{ratio, changed};
+ghost use Rattle.published.specs.Steps.{ratio, changed, updated};
 ghost use Rattle.steps.specs.Area.{Area, Turns, Becomes, polynomialAdded, polynomialsExchanged};
-ghost use Rattle.steps.specs.Pairs.{Held, NumbersOf};
+ghost use Rattle.steps.specs.Pairs.{Held, NumbersOf, pairAt};
 
 // Polynomial f becomes f + m·x^shift·g.
 fn add_polynomial(work: &mut [u8], q: usize, f: usize, g: usize, shift: usize, m: u8)
@@ -63,4 +64,16 @@ fn change(work: &mut [u8], q: usize, i: usize, pair: Pair, vote: u8)
         return;
     }
     add_polynomial(work, q, q + i, partner, -c as usize, ratio);
+}
+
+// The update of all pairs.
+pub fn change_all(work: &mut [u8], q: usize, pairs: [Pair; 4], vote: u8)
+    requires { ⌜ Area q (length (now work)) ⌝ }
+    requires { ⌜ ((i : ℕ) → i < q → Held q (pairAt pairs i)) ⌝ }
+    ensures { λ _. ⌜ ((S : Polynomials (symbols q) q) (ω : Sym q) (P : ℕ → Pairing (symbols q) q) → vote ≡ number q ω → ((i : ℕ) → i < q → NumbersOf q (pairAt pairs i) (P i)) → Becomes q (now (work .entry)) (now (work .exit)) S (updated (symbols q) q ω (tab q P) S q)) ⌝ }
+{
+    for i in 0..q {
+        let pair = pairs[i];
+        change(work, q, i, pair, vote);
+    }
 }

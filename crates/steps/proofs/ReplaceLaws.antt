@@ -1,0 +1,124 @@
+-- The substitution for z, and the update of all pairs, as the definitions have them.
+-- Assumes nothing.
+use mathlib.Core.Path.{_≡_, refl, sym, ap, _∙_, subst}
+use mathlib.Core.Bool.{Bool, true, false}
+use mathlib.Core.List.{List}
+use mathlib.Core.Logic.{_⊎_, inl, ⊎-elim}
+use Prim.Native.Nat.{ℕ, _+_, _-_, _*_, _/_, _%_, _<_, _≤_}
+use native.Mathlib.Nat.{mod-lt, div-le-self}
+use native.Mathlib.Numerals.{add-one}
+use native.Mathlib.Omega.{arith}
+use lib.Dec.{eqb}
+use borrow.Author.Tests.{eq-eqb, ne-eqb}
+use Rattle.algebra.specs.Symbols.{Symbols}
+use Rattle.algebra.specs.Weights.{xPower, yPower, gap}
+use Rattle.algebra.specs.Functions.{timesX, timesYs, timesMonomial}
+use Rattle.lists.specs.Tables.{tab}
+use Rattle.lists.proofs.Numbers.{lt-or-ge}
+use Rattle.lists.proofs.Tables.{getD-tab}
+use Rattle.symbols.specs.Rule.{Known, symbols, number}
+use Rattle.curve.specs.declared.Monomial.{Monomial}
+use Rattle.curve.specs.declared.Monomial.the-variants.{Gap, Powers}
+use Rattle.curve.specs.Answers.{monomialOf}
+use Rattle.published.specs.Start.{Polynomials, coefficient, polynomials, width, upper, lower}
+use Rattle.published.specs.Pairing.{Pairing}
+use Rattle.published.specs.Steps.{substitutedPart, substituted, changed, noPair, updated}
+use Rattle.steps.specs.Area.{Cells, cellsOf, Becomes, functionOf, plusProduct, productAdded, upperOf, lowerOf, replacedZ}
+use Rattle.steps.proofs.Cells.{rows-in, rows-out}
+use Rattle.steps.proofs.ProductCells.{product-cong, plusProduct-is, replaced-yes}
+use Rattle.steps.proofs.Coefficients.{upper-cell, lower-cell, upper-row, lower-row, cell-polynomials}
+
+-- the powers of a weight that is no gap
+powers-are : (q s : ℕ) → gap q s ≡ false → monomialOf q s ≡ Powers (xPower q s) (yPower q s)
+unfolding monomialOf
+powers-are q s e = subst (λ (t : Bool). _≡_ {A = Monomial} (elim t [ true ↦ Gap | false ↦ Powers (xPower q s) (yPower q s) ]) (Powers (xPower q s) (yPower q s))) (sym e) refl
+
+pub powers-of : (q s : ℕ) (m : Monomial) (x y : ℕ) → gap q s ≡ false → m ≡ monomialOf q s → m ≡ Powers x y → (x ≡ xPower q s) × (y ≡ yPower q s)
+powers-of q s m x y e is this = let same = powers-are q s e in (cc, cc)
+
+-- such a weight is not said to be a gap
+pub not-gap : (q s : ℕ) (m : Monomial) → gap q s ≡ false → m ≡ monomialOf q s → m ≡ Gap → ⊥
+not-gap q s m e is this =
+    let same = powers-are q s e in
+    let z : _≡_ {A = ℕ} 0 1 = cc in
+    omega arith
+
+-- they are small
+pub powers-small : (q s : ℕ) → 0 < q → (yPower q s < q) × (xPower q s ≤ s)
+unfolding xPower yPower
+powers-small q s h = (mod-lt s h, omega (arith, div-le-self (s - (q + 1) * (s % q)) q))
+
+module _ (q : ℕ) (known : Known q) (S : Polynomials (symbols q) q) where
+  infixl 65 _⊕_
+  infixl 70 _⊗_
+  open Symbols (symbols q) using (K, _⊕_, _⊗_)
+
+  module _ (s : ℕ) (ω : K) where
+    lower-is : (p j i : ℕ) → substitutedPart (symbols q) q s ω S p lower j i
+        ≡ coefficient (symbols q) q S p lower j i ⊕ ω ⊗ timesMonomial (symbols q) q s (coefficient (symbols q) q S p upper) j i
+    unfolding substitutedPart
+    lower-is p j i = refl
+
+    upper-is : (p j i : ℕ) → substitutedPart (symbols q) q s ω S p upper j i ≡ coefficient (symbols q) q S p upper j i
+    unfolding substitutedPart
+    upper-is p j i = refl
+
+    -- a row of the upper part, and of the lower one
+    upper-new : (p r i : ℕ) → r < q → productAdded q (lowerOf q p) (upperOf q p) (xPower q s) (yPower q s) ω q (cellsOf q S) p r i
+        ≡ substitutedPart (symbols q) q s ω S p (r / q) (r % q) i
+    unfolding productAdded
+    upper-new p r i h =
+        rows-out q p q q (plusProduct q (lowerOf q p) (upperOf q p) (xPower q s) (yPower q s) ω (cellsOf q S)) (cellsOf q S) p r i (λ e. inl h)
+        ∙ sym (upper-cell q S p r i)
+        ∙ sym (upper-is p r i)
+        ∙ (rw (upper-row q r h .0, upper-row q r h .1))
+
+    lower-new : (p j i : ℕ) → j < q → productAdded q (lowerOf q p) (upperOf q p) (xPower q s) (yPower q s) ω q (cellsOf q S) p (q + j) i
+        ≡ substitutedPart (symbols q) q s ω S p ((q + j) / q) ((q + j) % q) i
+    unfolding productAdded timesMonomial
+    lower-new p j i h =
+        rows-in q p q q (plusProduct q (lowerOf q p) (upperOf q p) (xPower q s) (yPower q s) ω (cellsOf q S)) (cellsOf q S) j i h
+        ∙ plusProduct-is q known (lowerOf q p) (upperOf q p) (xPower q s) (yPower q s) ω (cellsOf q S) j i
+        ∙ ap (λ (y : K). y ⊕ ω ⊗ timesX (symbols q) q (xPower q s) (timesYs (symbols q) q (yPower q s) (functionOf q (upperOf q p) (cellsOf q S))) j i) (sym (lower-cell q S p j i))
+        ∙ ap (λ (y : K). coefficient (symbols q) q S p lower j i ⊕ ω ⊗ y)
+            (product-cong q known (xPower q s) (yPower q s) (functionOf q (upperOf q p) (cellsOf q S)) (coefficient (symbols q) q S p upper)
+            (λ k n hk. let z : 0 + k ≡ k = omega arith in ap (λ (m : ℕ). cellsOf q S p m n) z ∙ sym (upper-cell q S p k n)) j i h)
+        ∙ sym (lower-is p j i)
+        ∙ (rw (lower-row q j h .0, lower-row q j h .1))
+
+    chosen : Bool → Polynomials (symbols q) q
+    chosen t = elim t [ true ↦ S | false ↦ polynomials (symbols q) q (substitutedPart (symbols q) q s ω S) ]
+
+    substituted-is : (t : Bool) → eqb (number q ω) 0 ≡ t → substituted (symbols q) q s ω S ≡ chosen t
+    unfolding substituted chosen
+    substituted-is t e = subst (λ (b : Bool). substituted (symbols q) q s ω S ≡ chosen b) e refl
+
+    -- "(no change if w = 0)"
+    pub substituted-none : number q ω ≡ 0 → substituted (symbols q) q s ω S ≡ S
+    unfolding chosen
+    substituted-none e = substituted-is true (eq-eqb _ _ e)
+
+    -- "z becomes z + w·(monomial of s) in all 2q polynomials"
+    pub substituted-cells : (number q ω ≡ 0 → ⊥) → (p r i : ℕ) → p < 2 * q → r < 2 * q → i < width q
+        → replacedZ q (xPower q s) (yPower q s) ω (2 * q) (cellsOf q S) p r i ≡ cellsOf q (substituted (symbols q) q s ω S) p r i
+    unfolding chosen
+    substituted-cells ne p r i hp hr hi =
+        replaced-yes q known (xPower q s) (yPower q s) ω (2 * q) (cellsOf q S) p r i hp
+        ∙ ⊎-elim
+        (λ (h : r < q). upper-new p r i h)
+        (λ (h : q ≤ r). let z : r ≡ q + (r - q) = omega arith in rw z (lower-new p (r - q) i (omega arith)))
+        (lt-or-ge r q)
+        ∙ sym (cell-polynomials q (substitutedPart (symbols q) q s ω S) p r i hp hr hi)
+        ∙ ap (λ (T : Polynomials (symbols q) q). cellsOf q T p r i) (sym (substituted-is false (ne-eqb _ _ ne)))
+
+  -- no pair yet, and one pair more
+  pub updated-none : (ω : K) (Ps : List (Pairing (symbols q) q)) → updated (symbols q) q ω Ps S 0 ≡ S
+  unfolding updated
+  updated-none ω Ps = refl
+
+  pub updated-more : (ω : K) (P : ℕ → Pairing (symbols q) q) (i : ℕ) → i < q
+      → changed (symbols q) q ω i (P i) (updated (symbols q) q ω (tab q P) S i) ≡ updated (symbols q) q ω (tab q P) S (i + 1)
+  unfolding updated
+  updated-more ω P i h =
+      rw (add-one i)
+      (ap (λ (Q : Pairing (symbols q) q). changed (symbols q) q ω i Q (updated (symbols q) q ω (tab q P) S i)) (sym (getD-tab q P i (noPair (symbols q) q) h)))

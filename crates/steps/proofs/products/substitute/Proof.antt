@@ -1,0 +1,62 @@
+-- No vote, or a weight that has a monomial.
+-- Assumes nothing.
+use mathlib.Core.Path.{_≡_, sym, _∙_}
+use Prim.Native.Nat.{ℕ}
+use native.Mathlib.Omega.{arith}
+use Rattle.symbols.specs.Rule.{symbols}
+use Rattle.symbols.proofs.FieldLaws.{laws-of}
+use Rattle.steps.proofs.ChangeLaws.{becomes, becomes-same}
+use Rattle.steps.proofs.ReplaceLaws.{powers-of, not-gap, powers-small, substituted-none, substituted-cells}
+use borrow.Author.Needs.{needs}
+use Rattle.steps.proofs.products.substitute.Statement.{statement}
+use Rattle.steps.proofs.products.substitute.Tie as tie
+use Rattle.steps.proofs.products.substitute.Reads as reads
+use Rattle.steps.proofs.products.substitute.Lts as lts
+use Rattle.curve.proofs.monomial_of.Reads as monomial-of-reads
+use Rattle.steps.proofs.products.replace_z.Reads as replace-z-reads
+
+returns : tie.Need-returns
+returns c = λ S ω ev. becomes-same _ S _ (substituted-none _ (c .before .before .pre .0 .known) S _ ω (sym ev ∙ c .if1 .taken))
+
+monomial-of-requires : tie.Need-monomial-of-requires
+monomial-of-requires c κs = search needs
+
+enum-known-monomial : tie.Need-enum-known-monomial
+enum-known-monomial c = search needs
+
+enum-told : tie.Need-enum-told
+enum-told c = search needs
+
+returns-2 : tie.Need-returns-2
+returns-2 c = λ S ω ev. absurd (not-gap _ _ _ (c .before .before .before .before .before .pre .1 .1 (c .before .before .before .if1 .left)) (c .before .before .monomial-of .ensures) (c .enum-told .given .1))
+
+replace-z-requires : tie.Need-replace-z-requires
+replace-z-requires c κs =
+    let s = c .before .before .before .before .before .before .before in
+    let e = powers-of _ _ _ _ _ (s .pre .1 .1 (c .before .before .before .before .before .if1 .left)) (c .before .before .before .before .monomial-of .ensures) (c .before .before .monomial .given .1) in
+    let b = powers-small (s .args .q) (s .args .s) (omega (arith, s .pre .0 .some)) in
+    (s .pre .0, rw (e .0, e .1) (b .0, omega (arith, b .1)))
+
+same-length : tie.Need-same-length
+same-length c = search needs
+
+returns-3 : tie.Need-returns-3
+returns-3 c =
+    λ S ω ev.
+    let s = c .before .before .before .before .before .before .before .before .before .before in
+    let e = powers-of _ _ _ _ _ (s .pre .1 .1 (c .before .before .before .before .before .before .before .before .if1 .left)) (c .before .before .before .before .before .before .before .monomial-of .ensures) (c .before .before .before .before .before .monomial .given .1) in
+    becomes _ _ (rw (e .0, e .1, ev, laws-of _ (s .pre .0 .known) .symbol-number) at (c .before .before .replace-z .ensures))
+    (substituted-cells _ (s .pre .0 .known) S _ ω (λ z. c .before .before .before .before .before .before .before .before .if1 .left (ev ∙ z)))
+
+pub substitute-spec : {M : Type 1} → statement M
+substitute-spec =
+    tie.close
+    (tie.spec
+    returns
+    monomial-of-requires
+    enum-known-monomial
+    enum-told
+    returns-2
+    replace-z-requires
+    same-length
+    returns-3)
