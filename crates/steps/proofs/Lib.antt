@@ -12,3 +12,5 @@ mod PairNumbers
 mod VoteLaws
 mod ChangeLaws
 mod ReplaceLaws
+mod NarrowLaws
+mod StepLaws

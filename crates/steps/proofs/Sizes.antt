@@ -17,6 +17,8 @@ pub record Sizes (q : ℕ) : Type 0 where
   pub few : q ≤ 4
   pub square-some : 4 ≤ q * q
   pub square-few : q * q ≤ 16
+  pub cube-some : 8 ≤ q * q * q
+  pub cube-few : q * q * q ≤ 64
   pub wide : q * q < width q
   pub narrow : width q ≤ 23
   pub area : areaSize q ≤ 1472
@@ -27,8 +29,8 @@ pub sizes : (q : ℕ) → Known q → Sizes q
 unfolding Known width areaSize startWeight
 sizes q =
     ⊎-elim
-    (λ (e : q ≡ 2). subst Sizes (sym e) (record { some = omega arith; few = omega arith; square-some = omega arith; square-few = omega arith; wide = omega arith; narrow = omega arith; area = omega arith; start = omega arith }))
-    (λ (e : q ≡ 4). subst Sizes (sym e) (record { some = omega arith; few = omega arith; square-some = omega arith; square-few = omega arith; wide = omega arith; narrow = omega arith; area = omega arith; start = omega arith }))
+    (λ (e : q ≡ 2). subst Sizes (sym e) (record { some = omega arith; few = omega arith; square-some = omega arith; square-few = omega arith; cube-some = omega arith; cube-few = omega arith; wide = omega arith; narrow = omega arith; area = omega arith; start = omega arith }))
+    (λ (e : q ≡ 4). subst Sizes (sym e) (record { some = omega arith; few = omega arith; square-some = omega arith; square-few = omega arith; cube-some = omega arith; cube-few = omega arith; wide = omega arith; narrow = omega arith; area = omega arith; start = omega arith }))
 
 -- the area's numbers, where there is room for it
 pub area-of : {q n : ℕ} → Known q → areaSize q ≤ n → Area q n

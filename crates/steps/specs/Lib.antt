@@ -1,3 +1,4 @@
 pub mod Area
 pub mod Pairs
 pub mod Stop
+pub mod Step

@@ -6,6 +6,7 @@ mod pairs;
 mod products;
 mod reading;
 mod rows;
+pub mod step;
 mod update;
 mod votes;
 

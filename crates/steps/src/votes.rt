@@ -1,6 +1,7 @@
 // Scores and the vote of a step: the symbol of largest score, the smallest number among equals.
 use crate::pairs::Pair;
 ghost use mathlib.Core.Path.{_≡_};
+ghost use mathlib.Core.Bool.{false};
 ghost use Prim.Native.Nat.{ℕ, _*_, _-_, _≤_, _<_};
 ghost use lib.IntN.{natAbs};
 ghost use lib.ListN.{getD};
@@ -69,6 +70,7 @@ fn best_of(scores: [usize; 16], q: usize) -> u8
 pub fn vote_of(pairs: [Pair; 4], q: usize, voted: bool) -> u8
     requires { ⌜ Known q ⌝ }
     requires { ⌜ ((i : ℕ) → i < q → Held q (pairAt pairs i)) ⌝ }
+    ensures { λ r. ⌜ (voted ≡ false → r ≡ 0) ⌝ }
     ensures { λ r. ⌜ ((P : ℕ → Pairing (symbols q) q) (u s : ℕ) → ((i : ℕ) → i < q → NumbersOf q (pairAt pairs i) (P i)) → isVoted q u s ≡ voted → r ≡ number q (vote (symbols q) q u s (tab q P))) ⌝ }
 {
     if voted {

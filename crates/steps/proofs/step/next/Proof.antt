@@ -1,0 +1,73 @@
+-- The parts of the step, one after the other, at the state after the steps done.
+-- Assumes nothing.
+use native.Mathlib.Omega.{arith}
+use mathlib.Core.Path.{ap}
+use Prim.Native.Nat.{ℕ, _-_}
+use Rattle.published.specs.Start.{stepCount}
+use Rattle.steps.proofs.Cells.{still}
+use Rattle.steps.proofs.Sizes.{sizes, area-of}
+use Rattle.steps.proofs.StepLaws.{vote-zero, assembled}
+use borrow.Author.Needs.{needs}
+use Rattle.steps.proofs.step.next.Statement.{statement}
+use Rattle.steps.proofs.step.next.Tie as tie
+use Rattle.steps.proofs.step.next.Reads as reads
+use Rattle.steps.proofs.step.next.Lts as lts
+use Rattle.steps.proofs.pairs.pairs_of.Reads as pairs-of-reads
+use Rattle.steps.proofs.products.substitute.Reads as substitute-reads
+use Rattle.steps.proofs.step.start_weight.Reads as start-weight-reads
+use Rattle.steps.proofs.update.change_all.Reads as change-all-reads
+use Rattle.steps.proofs.votes.is_voted.Reads as is-voted-reads
+use Rattle.steps.proofs.votes.vote_of.Reads as vote-of-reads
+
+start-weight-requires : tie.Need-start-weight-requires
+start-weight-requires c κs = search needs
+
+sub-s : tie.Need-sub-s
+unfolding stepCount
+sub-s c =
+    let s = c .before .before in
+    omega (arith, c .start-weight .ensures, s .pre .2)
+
+is-voted-requires : tie.Need-is-voted-requires
+is-voted-requires c κs = search needs
+
+pairs-of-requires : tie.Need-pairs-of-requires
+pairs-of-requires c κs =
+    let s = c .before .before .before .before in
+    (area-of (s .pre .0) (s .pre .1), omega (arith, c .before .before .start-weight .ensures, sizes _ (s .pre .0) .start))
+
+vote-of-requires : tie.Need-vote-of-requires
+vote-of-requires c κs = (c .before .before .before .before .before .pre .0, c .pairs-of .ensures .0)
+
+substitute-requires : tie.Need-substitute-requires
+substitute-requires c κs =
+    let s = c .before .before .before .before .before .before .before in
+    (area-of (s .pre .0) (s .pre .1), (omega (arith, c .before .before .before .before .before .start-weight .ensures, sizes _ (s .pre .0) .start), λ ne. vote-zero _ _ _ _ _ (c .before .before .before .before .is-voted .ensures) (c .before .vote-of .ensures .0) ne))
+
+change-all-requires : tie.Need-change-all-requires
+change-all-requires c κs =
+    let s = c .before .before .before .before .before .before .before .before .before .before .before in
+    (still (area-of (s .pre .0) (s .pre .1)) (omega arith), c .before .before .before .before .before .before .pairs-of .ensures .0)
+
+same-length : tie.Need-same-length
+same-length c = search needs
+
+returns : tie.Need-returns
+returns c =
+    λ row rest e.
+    assembled _ _ row _ rest _ _ (c .before .before .before .before .before .before .before .before .before .pairs-of .result) _ _ _ _ (ap (λ (n : ℕ). n - c .before .before .before .before .before .before .before .before .before .before .before .before .before .before .args .done) (c .before .before .before .before .before .before .before .before .before .before .before .before .start-weight .ensures)) (c .before .before .before .before .before .before .before .before .before .before .before .is-voted .ensures) e
+    (c .before .before .before .before .before .before .before .before .before .pairs-of .ensures .1) (c .before .before .before .before .before .before .before .before .vote-of .ensures .1) (c .before .before .before .before .before .before .substitute .ensures) (c .before .before .change-all .ensures)
+
+pub next-spec : {M : Type 1} → statement M
+next-spec =
+    tie.close
+    (tie.spec
+    start-weight-requires
+    sub-s
+    is-voted-requires
+    pairs-of-requires
+    vote-of-requires
+    substitute-requires
+    change-all-requires
+    same-length
+    returns)

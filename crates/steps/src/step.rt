@@ -1,0 +1,36 @@
+// One step of the published decoder on a picture in the work area.
+use crate::pairs;
+use crate::products;
+use crate::update;
+use crate::votes;
+ghost use mathlib.Core.Path.{_≡_};
+ghost use mathlib.Core.List.{List, _++_};
+ghost use Prim.Native.Nat.{ℕ, _<_, _≤_};
+ghost use lib.ListN.{length};
+ghost use Rattle.symbols.specs.Rule.{Known};
+ghost use Rattle.published.specs.Start.{startWeight, stepCount};
+ghost use Rattle.published.specs.Picture.{areaSize};
+ghost use Rattle.steps.specs.Stop.{pictureAfter};
+ghost use Rattle.steps.specs.Step.{Stepped};
+
+// The weight of the first step.
+pub fn start_weight(q: usize) -> usize
+    requires { ⌜ Known q ⌝ }
+    ensures { λ r. ⌜ r ≡ startWeight q ⌝ }
+{
+    q * q * q + q * q - q - 1
+}
+
+// Does the step after `done` steps and gives its vote, 0 where there is none.
+pub fn next(q: usize, u: usize, done: usize, work: &mut [u8]) -> u8
+    requires { ⌜ Known q × (areaSize q ≤ length (now work)) × (done < stepCount q) ⌝ }
+    ensures { λ vote. ⌜ ((row : List ℕ) (rest : List ℕ) → now (work .entry) ≡ pictureAfter q u row done ++ rest → Stepped q u row done rest vote (now (work .exit))) ⌝ }
+{
+    let s = start_weight(q) - done;
+    let voted = votes::is_voted(q, u, s);
+    let pairs = pairs::pairs_of(&work[..], q, s, voted);
+    let vote = votes::vote_of(pairs, q, voted);
+    products::substitute(work, q, s, vote);
+    update::change_all(work, q, pairs, vote);
+    vote
+}
