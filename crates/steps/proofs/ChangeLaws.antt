@@ -4,29 +4,27 @@ use mathlib.Core.Path.{_≡_, refl, sym, ap, _∙_, subst}
 use mathlib.Core.Bool.{Bool, true, false}
 use mathlib.Core.List.{List, []}
 use mathlib.Core.Logic.{⊎-elim}
-use Prim.Native.Nat.{ℕ, _+_, _*_, _/_, _%_, _<_}
+use Prim.Native.Nat.{ℕ, _+_, _*_, _<_}
 use native.Mathlib.Omega.{arith}
 use lib.Bits.{bitXor}
 use lib.Dec.{eqb, ltb}
 use lib.ListN.{getD}
 use borrow.Author.Tests.{eq-eqb, ne-eqb, le-ltb}
 use Rattle.algebra.specs.Symbols.{Symbols, same}
-use Rattle.algebra.specs.Functions.{Fn, shift, timesX}
+use Rattle.algebra.specs.Functions.{shift, timesX}
 use Rattle.lists.specs.Tables.{tab}
 use Rattle.lists.proofs.Numbers.{same-or-not}
 use Rattle.lists.proofs.Tables.{getD-tab}
 use Rattle.symbols.specs.Rule.{Known, symbols, Sym, number, symbol}
 use Rattle.symbols.proofs.FieldLaws.{laws-of}
 use Rattle.symbols.proofs.Bytes.{number-of-sum, minus-is-plus}
-use Rattle.published.specs.Start.{Polynomial, Polynomials, coefficient, polynomial, width}
+use Rattle.published.specs.Start.{Polynomial, Polynomials, polynomial, width}
 use Rattle.published.specs.Pairing.{Pairing, positivePart, negativePart}
 use Rattle.published.specs.Steps.{raisedPart, reducedPart, replaced, exchanged, ratio, changed}
-use Rattle.published.specs.Picture.{picture}
-use Rattle.steps.specs.Area.{Cells, cellsOf, shown, Turns, Becomes, withRows, plusMultiple, raisedPlus, polynomialAdded, polynomialsExchanged}
+use Rattle.steps.specs.Area.{Cells, cellsOf, Turns, Becomes, withRows, plusMultiple, raisedPlus, polynomialAdded, polynomialsExchanged}
 use Rattle.steps.proofs.Cells.{picture-is, shown-same, rows-in, rows-out}
 use Rattle.steps.proofs.RowLaws.{plus-is, raised-is}
 use Rattle.steps.proofs.Coefficients.{held, cell-held, held-polynomial}
-use Rattle.steps.proofs.Signed.{Unraised}
 
 -- a change of cells that makes the cells of T of those of S
 pub becomes : (q : ℕ) {before after : List ℕ} {S T : Polynomials (symbols q) q} (change : Cells q → Cells q) → Turns q before after change
@@ -34,8 +32,8 @@ pub becomes : (q : ℕ) {before after : List ℕ} {S T : Polynomials (symbols q)
 becomes q {S = S} {T = T} change t same =
     record {
       shows = λ rest e.
-        t .shows (cellsOf q S) rest (rw (← picture-is q S) e)
-        ∙ (rw (shown-same q (change (cellsOf q S)) (cellsOf q T) same, ← picture-is q T));
+          t .shows (cellsOf q S) rest (rw (← picture-is q S) e)
+          ∙ (rw (shown-same q (change (cellsOf q S)) (cellsOf q T) same, ← picture-is q T));
     }
 
 module _ (q : ℕ) (known : Known q) (S : Polynomials (symbols q) q) where
@@ -79,26 +77,30 @@ module _ (q : ℕ) (known : Known q) (S : Polynomials (symbols q) q) where
   replaced-cells i g c ρ p r n hp hr hn =
       ⊎-elim
       (λ (e : p ≡ q + i).
-          rw e
-          (all-rows (q + i) F (cellsOf q S) r n hr
-          ∙ reduced-cell i g c ρ r n hr hn
-          ∙ sym (chosen (q + i) true (eq-eqb (q + i) (q + i) refl))
-          ∙ sym (in-table new (q + i) r n (rw e at hp))))
+      rw e
+      (all-rows (q + i) F (cellsOf q S) r n hr
+      ∙ reduced-cell i g c ρ r n hr hn
+      ∙ sym (chosen (q + i) true (eq-eqb (q + i) (q + i) refl))
+      ∙ sym (in-table new (q + i) r n (rw e at hp))))
       (λ ne.
-          rows-out q (q + i) 0 (2 * q) F (cellsOf q S) p r n (λ e. absurd (ne e))
-          ∙ cell-held q S p r n
-          ∙ sym (chosen p false (ne-eqb p (q + i) ne))
-          ∙ sym (in-table new p r n hp))
+      rows-out q (q + i) 0 (2 * q) F (cellsOf q S) p r n (λ e. absurd (ne e))
+      ∙ cell-held q S p r n
+      ∙ sym (chosen p false (ne-eqb p (q + i) ne))
+      ∙ sym (in-table new p r n hp))
       (same-or-not p (q + i))
     where
       F : ℕ → ℕ → K
       F r = plusMultiple q (cellsOf q S (q + i) r) ρ c (cellsOf q S g r)
+
       made : Polynomial (symbols q) q
       made = polynomial (symbols q) q (reducedPart (symbols q) q S i g c ρ)
+
       pick : ℕ → Bool → Polynomial (symbols q) q
       pick p t = elim t [ true ↦ made | false ↦ getD S p [] ]
+
       new : ℕ → Polynomial (symbols q) q
       new p = pick p (eqb p (q + i))
+
       chosen : (p : ℕ) (t : Bool) → eqb p (q + i) ≡ t → held q (new p) r n ≡ held q (pick p t) r n
       chosen p t e = ap (λ (b : Bool). held q (pick p b) r n) e
 
@@ -110,38 +112,43 @@ module _ (q : ℕ) (known : Known q) (S : Polynomials (symbols q) q) where
   exchanged-cells i g c ρ hg p r n hp hr hn =
       ⊎-elim
       (λ (e : p ≡ q + i).
-          rw e
-          (rows-out q g 0 (2 * q) (cellsOf q S (q + i)) above (q + i) r n (λ z. absurd (omega arith))
-          ∙ all-rows (q + i) F (cellsOf q S) r n hr
-          ∙ raised-cell i g c ρ r n hr hn
-          ∙ sym (chosen (q + i) true (eqb (q + i) g) (eq-eqb (q + i) (q + i) refl) refl)
-          ∙ sym (in-table new (q + i) r n (rw e at hp))))
+      rw e
+      (rows-out q g 0 (2 * q) (cellsOf q S (q + i)) above (q + i) r n (λ z. absurd (omega arith))
+      ∙ all-rows (q + i) F (cellsOf q S) r n hr
+      ∙ raised-cell i g c ρ r n hr hn
+      ∙ sym (chosen (q + i) true (eqb (q + i) g) (eq-eqb (q + i) (q + i) refl) refl)
+      ∙ sym (in-table new (q + i) r n (rw e at hp))))
       (λ ne. ⊎-elim
-          (λ (e : p ≡ g).
-              rw e
-              (all-rows g (cellsOf q S (q + i)) above r n hr
-              ∙ cell-held q S (q + i) r n
-              ∙ sym (chosen g false true (ne-eqb g (q + i) (λ z. omega arith)) (eq-eqb g g refl))
-              ∙ sym (in-table new g r n (rw e at hp))))
-          (λ ng.
-              rows-out q g 0 (2 * q) (cellsOf q S (q + i)) above p r n (λ e. absurd (ng e))
-              ∙ rows-out q (q + i) 0 (2 * q) F (cellsOf q S) p r n (λ e. absurd (ne e))
-              ∙ cell-held q S p r n
-              ∙ sym (chosen p false false (ne-eqb p (q + i) ne) (ne-eqb p g ng))
-              ∙ sym (in-table new p r n hp))
-          (same-or-not p g))
+      (λ (e : p ≡ g).
+      rw e
+      (all-rows g (cellsOf q S (q + i)) above r n hr
+      ∙ cell-held q S (q + i) r n
+      ∙ sym (chosen g false true (ne-eqb g (q + i) (λ z. omega arith)) (eq-eqb g g refl))
+      ∙ sym (in-table new g r n (rw e at hp))))
+      (λ ng.
+      rows-out q g 0 (2 * q) (cellsOf q S (q + i)) above p r n (λ e. absurd (ng e))
+      ∙ rows-out q (q + i) 0 (2 * q) F (cellsOf q S) p r n (λ e. absurd (ne e))
+      ∙ cell-held q S p r n
+      ∙ sym (chosen p false false (ne-eqb p (q + i) ne) (ne-eqb p g ng))
+      ∙ sym (in-table new p r n hp))
+      (same-or-not p g))
       (same-or-not p (q + i))
     where
       F : ℕ → ℕ → K
       F r = raisedPlus q (cellsOf q S (q + i) r) ρ c (cellsOf q S g r)
+
       above : Cells q
       above = withRows q (q + i) 0 (2 * q) F (cellsOf q S)
+
       made : Polynomial (symbols q) q
       made = polynomial (symbols q) q (raisedPart (symbols q) q S i g c ρ)
+
       pick : ℕ → Bool → Bool → Polynomial (symbols q) q
       pick p t t′ = elim t [ true ↦ made | false ↦ elim t′ [ true ↦ getD S (q + i) [] | false ↦ getD S p [] ] ]
+
       new : ℕ → Polynomial (symbols q) q
       new p = pick p (eqb p (q + i)) (eqb p g)
+
       chosen : (p : ℕ) (t t′ : Bool) → eqb p (q + i) ≡ t → eqb p g ≡ t′ → held q (new p) r n ≡ held q (pick p t t′) r n
       chosen p t t′ e e′ = ap (λ (b : Bool). held q (pick p b (eqb p g)) r n) e ∙ ap (λ (b : Bool). held q (pick p t b) r n) e′
 
@@ -194,7 +201,7 @@ unfolding ratio
 ratio-is q known ω P vote w mu nu product inverse r ev ew eu en ep ei er =
     let back = laws-of q known .symbol-number in
     let difference : bitXor (number q ω) (number q (P .w)) ≡ number q (symbols q ._⊖_ ω (P .w)) =
-        number-of-sum q known ω (P .w) ∙ ap (number q) (sym (minus-is-plus q ω (P .w))) in
+    number-of-sum q known ω (P .w) ∙ ap (number q) (sym (minus-is-plus q ω (P .w))) in
     er
     ∙ (rw (ep, ei, eu, en, ev, ew, difference, back (P .μ), back (P .ν), back (symbols q ._⊖_ ω (P .w)), back (symbols q .inverse (P .ν)), back (symbols q ._⊗_ (P .μ) (symbols q ._⊖_ ω (P .w)))))
 

@@ -1,16 +1,16 @@
 mod Bytes
-mod Cells
-mod Sizes
+pub mod Cells
+pub mod Sizes
 mod RowLaws
 mod Turned
 mod ProductCells
 mod UpdateCells
 mod Degrees
 mod Signed
-mod Coefficients
+pub mod Coefficients
 mod PairNumbers
 mod VoteLaws
 mod ChangeLaws
 mod ReplaceLaws
-mod NarrowLaws
+pub mod NarrowLaws
 mod StepLaws

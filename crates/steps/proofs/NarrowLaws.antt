@@ -4,10 +4,10 @@ use mathlib.Core.Path.{_≡_, refl, sym, ap, _∙_, subst}
 use mathlib.Core.Bool.{Bool, true, false}
 use mathlib.Core.List.{List, []}
 use mathlib.Core.Logic.{⊎-elim}
-use Prim.Native.Nat.{ℕ, zero, suc, _+_, _-_, _*_, _/_, _%_, _<_, _≤_}
+use Prim.Native.Nat.{ℕ, zero, suc, _+_, _*_, _/_, _%_, _<_, _≤_}
 use native.Mathlib.Omega.{arith}
 use lib.Dec.{eqb, ltb}
-use lib.ListN.{length, getD, List·getD-eq-default}
+use lib.ListN.{getD, List·getD-eq-default}
 use Rattle.algebra.specs.Symbols.{same}
 use Rattle.algebra.specs.Functions.{Fn}
 use Rattle.lists.specs.Tables.{tab}
@@ -44,10 +44,10 @@ module _ (q : ℕ) where
   short-polynomial F r i h =
       ⊎-elim
       (λ (b : r < 2 * q).
-          ap (λ (l : List (Sym q)). getD l i (symbols q .𝟘)) (getD-tab (2 * q) row r [] b)
-          ∙ List·getD-eq-default (row r) (symbols q .𝟘) (omega (arith, length-tab (width q) (F (r / q) (r % q)))))
+      ap (λ (l : List (Sym q)). getD l i (symbols q .𝟘)) (getD-tab (2 * q) row r [] b)
+      ∙ List·getD-eq-default (row r) (symbols q .𝟘) (omega (arith, length-tab (width q) (F (r / q) (r % q)))))
       (λ (b : 2 * q ≤ r).
-          ap (λ (l : List (Sym q)). getD l i (symbols q .𝟘)) (List·getD-eq-default (tab (2 * q) row) [] (omega (arith, length-tab (2 * q) row))))
+      ap (λ (l : List (Sym q)). getD l i (symbols q .𝟘)) (List·getD-eq-default (tab (2 * q) row) [] (omega (arith, length-tab (2 * q) row))))
       (lt-or-ge r (2 * q))
     where
       row : ℕ → List (Sym q)

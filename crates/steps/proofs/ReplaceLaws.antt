@@ -3,7 +3,7 @@
 use mathlib.Core.Path.{_≡_, refl, sym, ap, _∙_, subst}
 use mathlib.Core.Bool.{Bool, true, false}
 use mathlib.Core.List.{List}
-use mathlib.Core.Logic.{_⊎_, inl, ⊎-elim}
+use mathlib.Core.Logic.{inl, ⊎-elim}
 use Prim.Native.Nat.{ℕ, _+_, _-_, _*_, _/_, _%_, _<_, _≤_}
 use native.Mathlib.Nat.{mod-lt, div-le-self}
 use native.Mathlib.Numerals.{add-one}
@@ -23,7 +23,7 @@ use Rattle.curve.specs.Answers.{monomialOf}
 use Rattle.published.specs.Start.{Polynomials, coefficient, polynomials, width, upper, lower}
 use Rattle.published.specs.Pairing.{Pairing}
 use Rattle.published.specs.Steps.{substitutedPart, substituted, changed, noPair, updated}
-use Rattle.steps.specs.Area.{Cells, cellsOf, Becomes, functionOf, plusProduct, productAdded, upperOf, lowerOf, replacedZ}
+use Rattle.steps.specs.Area.{cellsOf, functionOf, plusProduct, productAdded, upperOf, lowerOf, replacedZ}
 use Rattle.steps.proofs.Cells.{rows-in, rows-out}
 use Rattle.steps.proofs.ProductCells.{product-cong, plusProduct-is, replaced-yes}
 use Rattle.steps.proofs.Coefficients.{upper-cell, lower-cell, upper-row, lower-row, cell-polynomials}
@@ -81,8 +81,8 @@ module _ (q : ℕ) (known : Known q) (S : Polynomials (symbols q) q) where
         ∙ plusProduct-is q known (lowerOf q p) (upperOf q p) (xPower q s) (yPower q s) ω (cellsOf q S) j i
         ∙ ap (λ (y : K). y ⊕ ω ⊗ timesX (symbols q) q (xPower q s) (timesYs (symbols q) q (yPower q s) (functionOf q (upperOf q p) (cellsOf q S))) j i) (sym (lower-cell q S p j i))
         ∙ ap (λ (y : K). coefficient (symbols q) q S p lower j i ⊕ ω ⊗ y)
-            (product-cong q known (xPower q s) (yPower q s) (functionOf q (upperOf q p) (cellsOf q S)) (coefficient (symbols q) q S p upper)
-            (λ k n hk. let z : 0 + k ≡ k = omega arith in ap (λ (m : ℕ). cellsOf q S p m n) z ∙ sym (upper-cell q S p k n)) j i h)
+        (product-cong q known (xPower q s) (yPower q s) (functionOf q (upperOf q p) (cellsOf q S)) (coefficient (symbols q) q S p upper)
+        (λ k n hk. let z : 0 + k ≡ k = omega arith in ap (λ (m : ℕ). cellsOf q S p m n) z ∙ sym (upper-cell q S p k n)) j i h)
         ∙ sym (lower-is p j i)
         ∙ (rw (lower-row q j h .0, lower-row q j h .1))
 

@@ -61,12 +61,12 @@ module _ (q u : ℕ) (row : List ℕ) (t : ℕ) where
   pub assembled : (rest : List ℕ) (s : ℕ) (voted : Bool) (pairs : List Pair) (v : ℕ) (before between after : List ℕ)
       → s ≡ weight → voted ≡ isVoted q u s → before ≡ pictureAfter q u row t ++ rest
       → ((S : Polynomials (symbols q) q) (u : ℕ) → Narrow q (cellsOf q S) → Starts q before (cellsOf q S) → isVoted q u s ≡ voted
-          → (i : ℕ) → i < q → NumbersOf q (pairAt pairs i) (pairing (symbols q) q u s S i))
+      → (i : ℕ) → i < q → NumbersOf q (pairAt pairs i) (pairing (symbols q) q u s S i))
       → ((P : ℕ → Pairing (symbols q) q) (u s : ℕ) → ((i : ℕ) → i < q → NumbersOf q (pairAt pairs i) (P i)) → isVoted q u s ≡ voted
-          → v ≡ number q (vote (symbols q) q u s (tab q P)))
+      → v ≡ number q (vote (symbols q) q u s (tab q P)))
       → ((S : Polynomials (symbols q) q) (ω : Sym q) → v ≡ number q ω → Becomes q before between S (substituted (symbols q) q s ω S))
       → ((S : Polynomials (symbols q) q) (ω : Sym q) (P : ℕ → Pairing (symbols q) q) → v ≡ number q ω
-          → ((i : ℕ) → i < q → NumbersOf q (pairAt pairs i) (P i)) → Becomes q between after S (updated (symbols q) q ω (tab q P) S q))
+      → ((i : ℕ) → i < q → NumbersOf q (pairAt pairs i) (P i)) → Becomes q between after S (updated (symbols q) q ω (tab q P) S q))
       → Stepped q u row t rest v after
   unfolding pictureAfter voteAfter voteOn pairings
   assembled rest s voted pairs v before between after es ev e paired chosen replaced changed =

@@ -5,6 +5,7 @@ ghost use Prim.Native.Nat.{_+_, _*_, _<_};
 ghost use lib.ListN.{length};
 ghost use Rattle.symbols.specs.Rule.{Known, Sym};
 ghost use Rattle.published.specs.Start.{width};
+ghost use Rattle.published.specs.Picture.{areaSize};
 ghost use Rattle.steps.specs.Area.{Area, rowPlace, Turns, Multiplies, rowAdded, rowExchanged};
 
 // How many powers of x a row has.
@@ -13,6 +14,14 @@ pub fn width_of(q: usize) -> usize
     ensures { λ n. ⌜ n ≡ width q ⌝ }
 {
     q * q + 2 * q - 1
+}
+
+// How many bytes the area needs.
+pub fn area_size(q: usize) -> usize
+    requires { ⌜ Known q ⌝ }
+    ensures { λ n. ⌜ n ≡ areaSize q ⌝ }
+{
+    4 * (q * q) * width_of(q)
 }
 
 // Where row r of polynomial p starts.

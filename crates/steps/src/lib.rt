@@ -6,9 +6,16 @@ mod pairs;
 mod products;
 mod reading;
 mod rows;
-pub mod step;
+mod step;
 mod update;
 mod votes;
+
+pub use area::area_size;
+pub use reading::Leading;
+pub use reading::leading_of;
+pub use step::step_count;
+pub use step::take_step;
+pub use votes::is_voted;
 
 // What the stop service answers.
 pub enum Stopped {

@@ -21,8 +21,16 @@ pub fn start_weight(q: usize) -> usize
     q * q * q + q * q - q - 1
 }
 
+// How many steps there are: one for each weight down to 0.
+pub fn step_count(q: usize) -> usize
+    requires { ⌜ Known q ⌝ }
+    ensures { λ r. ⌜ r ≡ stepCount q ⌝ }
+{
+    start_weight(q) + 1
+}
+
 // Does the step after `done` steps and gives its vote, 0 where there is none.
-pub fn next(q: usize, u: usize, done: usize, work: &mut [u8]) -> u8
+pub fn take_step(q: usize, u: usize, done: usize, work: &mut [u8]) -> u8
     requires { ⌜ Known q × (areaSize q ≤ length (now work)) × (done < stepCount q) ⌝ }
     ensures { λ vote. ⌜ ((row : List ℕ) (rest : List ℕ) → now (work .entry) ≡ pictureAfter q u row done ++ rest → Stepped q u row done rest vote (now (work .exit))) ⌝ }
 {

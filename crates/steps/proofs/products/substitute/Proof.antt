@@ -1,19 +1,13 @@
 -- No vote, or a weight that has a monomial.
 -- Assumes nothing.
-use mathlib.Core.Path.{_≡_, sym, _∙_}
-use Prim.Native.Nat.{ℕ}
+use mathlib.Core.Path.{sym, _∙_}
 use native.Mathlib.Omega.{arith}
-use Rattle.symbols.specs.Rule.{symbols}
 use Rattle.symbols.proofs.FieldLaws.{laws-of}
 use Rattle.steps.proofs.ChangeLaws.{becomes, becomes-same}
 use Rattle.steps.proofs.ReplaceLaws.{powers-of, not-gap, powers-small, substituted-none, substituted-cells}
 use borrow.Author.Needs.{needs}
 use Rattle.steps.proofs.products.substitute.Statement.{statement}
 use Rattle.steps.proofs.products.substitute.Tie as tie
-use Rattle.steps.proofs.products.substitute.Reads as reads
-use Rattle.steps.proofs.products.substitute.Lts as lts
-use Rattle.curve.proofs.monomial_of.Reads as monomial-of-reads
-use Rattle.steps.proofs.products.replace_z.Reads as replace-z-reads
 
 returns : tie.Need-returns
 returns c = λ S ω ev. becomes-same _ S _ (substituted-none _ (c .before .before .pre .0 .known) S _ ω (sym ev ∙ c .if1 .taken))

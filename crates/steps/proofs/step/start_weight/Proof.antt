@@ -1,15 +1,11 @@
 -- The numbers of a known q are small enough.
 -- Assumes nothing.
-use Prim.Native.Nat.{_*_}
-use native.Mathlib.Nat.{mul-le-mul}
 use native.Mathlib.Omega.{arith}
 use Rattle.published.specs.Start.{startWeight}
 use Rattle.steps.proofs.Sizes.{sizes}
 use borrow.Author.Needs.{needs}
 use Rattle.steps.proofs.step.start_weight.Statement.{statement}
 use Rattle.steps.proofs.step.start_weight.Tie as tie
-use Rattle.steps.proofs.step.start_weight.Reads as reads
-use Rattle.steps.proofs.step.start_weight.Lts as lts
 
 mul-result : tie.Need-mul-result
 mul-result c = omega (arith, sizes _ (c .pre))

@@ -1,10 +1,8 @@
 -- The three cases of the definition, by the sign of c.
 -- Assumes nothing.
-use mathlib.Core.Path.{_≡_, sym, ap, _∙_}
+use mathlib.Core.Path.{sym, ap, _∙_}
 use native.Mathlib.Omega.{arith}
-use lib.IntN.{ℤ, pos, natAbs, _-ℤ_}
-use mathlib.Core.List.{_++_}
-use Rattle.symbols.specs.Rule.{symbols, number}
+use lib.IntN.{natAbs}
 use Rattle.symbols.proofs.FieldLaws.{laws-of}
 use Rattle.published.specs.Pairing.{positivePart, negativePart}
 use Rattle.steps.proofs.Signed.{back, cast-fits, positive-yes, positive-no, minus-fits, minus-value, minus-cast}
@@ -12,11 +10,6 @@ use Rattle.steps.proofs.ChangeLaws.{becomes, becomes-same, unchanged, c
 use borrow.Author.Needs.{needs}
 use Rattle.steps.proofs.update.change.Statement.{statement}
 use Rattle.steps.proofs.update.change.Tie as tie
-use Rattle.steps.proofs.update.change.Reads as reads
-use Rattle.steps.proofs.update.change.Lts as lts
-use Rattle.steps.proofs.update.add_polynomial.Reads as add-polynomial-reads
-use Rattle.steps.proofs.update.exchange_polynomials.Reads as exchange-polynomials-reads
-use Rattle.steps.proofs.update.ratio_of.Reads as ratio-of-reads
 
 returns : tie.Need-returns
 returns c =

@@ -1,7 +1,7 @@
 -- Each turn does one pair more.
 -- Assumes nothing.
-use mathlib.Core.Path.{_≡_, sym}
-use Prim.Native.Nat.{ℕ, _+_, _-_, _≤_, _<_}
+use mathlib.Core.Path.{_≡_}
+use Prim.Native.Nat.{ℕ, _-_, _≤_, _<_}
 use native.Mathlib.Omega.{arith}
 use lib.ListN.{length}
 use Rattle.lists.specs.Tables.{tab}
@@ -17,9 +17,6 @@ use Rattle.steps.proofs.ReplaceLaws.{updated-none, updated-more}
 use borrow.Author.Needs.{needs}
 use Rattle.steps.proofs.update.change_all.Statement.{statement}
 use Rattle.steps.proofs.update.change_all.Tie as tie
-use Rattle.steps.proofs.update.change_all.Reads as reads
-use Rattle.steps.proofs.update.change_all.Lts as lts
-use Rattle.steps.proofs.update.change.Reads as change-reads
 
 abbrev Inv-loop : tie.InvT-loop
 Inv-loop work₀ q vote pairs i₀ work i =
@@ -53,10 +50,13 @@ loop-less c = search needs
 
 loop-again : tie.Need-loop-again Inv-loop μ-loop
 loop-again c =
-    let s = c .before .before .before .before .before .before .before .before in
-    (search needs, search needs, λ S ω P ev n.
-        rw (← updated-more _ (s .pre .0 .known) S ω P (c .before .before .before .before .before .before .loop .i) (c .before .before .before .before .before .loop-test .taken))
-        (becomes-then _ (c .before .before .before .before .before .before .loop .inv .2 S ω P ev n) (c .before .before .change .ensures (updated (symbols _) _ ω (tab _ P) S (c .before .before .before .before .before .before .loop .i)) ω (P (c .before .before .before .before .before .before .loop .i)) ev (n (c .before .before .before .before .before .before .loop .i) (c .before .before .before .before .before .loop-test .taken)))))
+    let s = c .before .before .before .before .before .before .before .before in (
+      search needs,
+      search needs,
+      λ S ω P ev n.
+          rw (← updated-more _ (s .pre .0 .known) S ω P (c .before .before .before .before .before .before .loop .i) (c .before .before .before .before .before .loop-test .taken))
+          (becomes-then _ (c .before .before .before .before .before .before .loop .inv .2 S ω P ev n) (c .before .before .change .ensures (updated (symbols _) _ ω (tab _ P) S (c .before .before .before .before .before .before .loop .i)) ω (P (c .before .before .before .before .before .before .loop .i)) ev (n (c .before .before .before .before .before .before .loop .i) (c .before .before .before .before .before .loop-test .taken)))),
+    )
 
 same-length : tie.Need-same-length Inv-loop μ-loop
 same-length c = search needs

@@ -4,10 +4,6 @@ use Rattle.steps.proofs.ChangeLaws.{ratio-is}
 use borrow.Author.Needs.{needs}
 use Rattle.steps.proofs.update.ratio_of.Statement.{statement}
 use Rattle.steps.proofs.update.ratio_of.Tie as tie
-use Rattle.steps.proofs.update.ratio_of.Reads as reads
-use Rattle.steps.proofs.update.ratio_of.Lts as lts
-use Rattle.symbols.proofs.inverse.Reads as inverse-reads
-use Rattle.symbols.proofs.product.Reads as product-reads
 
 product-requires : tie.Need-product-requires
 product-requires c κs = search needs

@@ -6,9 +6,6 @@ use Rattle.steps.proofs.VoteLaws.{voted-late, voted-is}
 use borrow.Author.Needs.{needs}
 use Rattle.steps.proofs.votes.is_voted.Statement.{statement}
 use Rattle.steps.proofs.votes.is_voted.Tie as tie
-use Rattle.steps.proofs.votes.is_voted.Reads as reads
-use Rattle.steps.proofs.votes.is_voted.Lts as lts
-use Rattle.curve.proofs.is_gap.Reads as is-gap-reads
 
 returns : tie.Need-returns
 returns c = voted-late _ _ _ (c .if1 .taken)

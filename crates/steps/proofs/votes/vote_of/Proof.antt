@@ -18,11 +18,12 @@ best-of-requires : tie.Need-best-of-requires
 best-of-requires c κs = search needs
 
 returns : tie.Need-returns
-returns c =
-    (λ no. let z : _≡_ {A = ℕ} 0 1 = cc (c .before .before .if1 .taken) in absurd (omega arith),
-    λ P u s numbers v.
-        vote-yes _ u s _ (c .before .before .before .pre .0) (tab _ P) (v ∙ c .before .before .if1 .taken) (c .best-of .ensures .0)
-        (c .best-of .ensures .1 (score (symbols _) _ (tab _ P)) (c .before .scores-of .ensures P numbers)))
+returns c = (
+  λ no. let z : _≡_ {A = ℕ} 0 1 = cc (c .before .before .if1 .taken) in absurd (omega arith),
+  λ P u s numbers v.
+      vote-yes _ u s _ (c .before .before .before .pre .0) (tab _ P) (v ∙ c .before .before .if1 .taken) (c .best-of .ensures .0)
+      (c .best-of .ensures .1 (score (symbols _) _ (tab _ P)) (c .before .scores-of .ensures P numbers)),
+)
 
 returns-2 : tie.Need-returns-2
 returns-2 c =

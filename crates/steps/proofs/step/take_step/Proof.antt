@@ -8,16 +8,8 @@ use Rattle.steps.proofs.Cells.{still}
 use Rattle.steps.proofs.Sizes.{sizes, area-of}
 use Rattle.steps.proofs.StepLaws.{vote-zero, assembled}
 use borrow.Author.Needs.{needs}
-use Rattle.steps.proofs.step.next.Statement.{statement}
-use Rattle.steps.proofs.step.next.Tie as tie
-use Rattle.steps.proofs.step.next.Reads as reads
-use Rattle.steps.proofs.step.next.Lts as lts
-use Rattle.steps.proofs.pairs.pairs_of.Reads as pairs-of-reads
-use Rattle.steps.proofs.products.substitute.Reads as substitute-reads
-use Rattle.steps.proofs.step.start_weight.Reads as start-weight-reads
-use Rattle.steps.proofs.update.change_all.Reads as change-all-reads
-use Rattle.steps.proofs.votes.is_voted.Reads as is-voted-reads
-use Rattle.steps.proofs.votes.vote_of.Reads as vote-of-reads
+use Rattle.steps.proofs.step.take_step.Statement.{statement}
+use Rattle.steps.proofs.step.take_step.Tie as tie
 
 start-weight-requires : tie.Need-start-weight-requires
 start-weight-requires c κs = search needs
@@ -58,8 +50,8 @@ returns c =
     assembled _ _ row _ rest _ _ (c .before .before .before .before .before .before .before .before .before .pairs-of .result) _ _ _ _ (ap (λ (n : ℕ). n - c .before .before .before .before .before .before .before .before .before .before .before .before .before .before .args .done) (c .before .before .before .before .before .before .before .before .before .before .before .before .start-weight .ensures)) (c .before .before .before .before .before .before .before .before .before .before .before .is-voted .ensures) e
     (c .before .before .before .before .before .before .before .before .before .pairs-of .ensures .1) (c .before .before .before .before .before .before .before .before .vote-of .ensures .1) (c .before .before .before .before .before .before .substitute .ensures) (c .before .before .change-all .ensures)
 
-pub next-spec : {M : Type 1} → statement M
-next-spec =
+pub take-step-spec : {M : Type 1} → statement M
+take-step-spec =
     tie.close
     (tie.spec
     start-weight-requires
