@@ -2,7 +2,7 @@
 -- votes give.
 use mathlib.Core.Path.{_≡_, refl, sym, ap, ap₂, _∙_}
 use mathlib.Core.List.{List, map, _++_}
-use Prim.Native.Nat.{ℕ, _+_, _*_, _-_, _≤_, _<_}
+use Prim.Native.Nat.{ℕ, _+_, _*_, _≤_, _<_}
 use native.Mathlib.Nat as Nat
 use native.Mathlib.Omega.{arith}
 use native.Mathlib.Decide.{decLt}
@@ -25,7 +25,7 @@ use Rattle.published.specs.Pairing.{degreeF, degreeG}
 use Rattle.published.specs.Steps.{messageOf}
 use Rattle.published.specs.Picture.{place, layout, cellNumber, picture}
 use Rattle.published.specs.Meaning.{Monomial, Occurs, partIn, valueWith}
-use Rattle.published.proofs.Widths.{within-width, degree-fits}
+use Rattle.published.proofs.Widths.{degree-fits}
 use Rattle.published.proofs.Parts.{Parts, SameParts, ZeroAt, upper-cut, lower-cut}
 use Rattle.published.proofs.Reading.{row-below, row-part, row-power, each-polynomial}
 use Rattle.published.proofs.InPlace.{InPlace}
@@ -56,10 +56,10 @@ module _ (𝓢 : Symbols) (q : ℕ) where
   unfolding partIn
   partIn-past work p part j i h = rw (le-ltb i (width q) h, partIn)
 
-  -- no monomial that occurs in the bytes has a power of x past q²+2q-2
-  pub occurs-within : (work : List ℕ) (p : ℕ) (m : Monomial) → Occurs 𝓢 q (partIn 𝓢 q work p) m → m .x ≤ q * q + 2 * q - 2
+  -- no monomial that occurs in the bytes has a power of x past the width
+  pub occurs-within : (work : List ℕ) (p : ℕ) (m : Monomial) → Occurs 𝓢 q (partIn 𝓢 q work p) m → m .x < width q
   occurs-within work p m o = elim (decLt (m .x) (width q)) [
-    | yes l ↦ within-width q (m .x) l
+    | yes l ↦ l
     | no l ↦ absurd (o .nonzero (partIn-past work p (m .part) (m .y) (m .x) (omega arith)))
   ]
 

@@ -12,7 +12,7 @@ use lib.Signed.{_<ℤ_, ltZ, ltZ-yes, <ℤ-irrefl}
 use Rattle.algebra.specs.Symbols.{Symbols}
 use Rattle.algebra.specs.Weights.{weight}
 use Rattle.algebra.proofs.WeightLaws.{weight-inj}
-use Rattle.published.specs.Start.{startWeight, stepCount, upper, lower}
+use Rattle.published.specs.Start.{startWeight, stepCount, lower}
 use Rattle.published.specs.Meaning.{weightAfter, Monomial, inUpper, inLower, weighs, Smaller, Occurs, Leading}
 use Rattle.published.proofs.Parts.{Parts, SameParts, LeadsUpper, LeadsLower}
 use Rattle.published.proofs.PairNumbers.{sub-pos, sub-neg}

@@ -2,16 +2,14 @@
 use mathlib.Core.Path.{_≡_, sym, ap, ap₂, _∙_}
 use mathlib.Core.List.{List, map, _++_}
 use Prim.Native.Nat.{ℕ, _≤_, _<_}
-use native.Mathlib.Nat as Nat
 use native.Mathlib.Omega.{arith}
 use Rattle.algebra.specs.Symbols.{Symbols, Laws}
-use Rattle.algebra.specs.Totals.{total}
 use Rattle.symbols.specs.Rule.{Known, symbols, number, symbol}
 use Rattle.symbols.proofs.FieldLaws.{laws-of}
 use Rattle.curve.specs.Points.{pointAt}
 use Rattle.curve.specs.Codes.{pointCount}
 use Rattle.curve.proofs.Arranged.{Arranged, points-arranged}
-use Rattle.published.specs.Start.{Polynomials, stepCount, f, g, coefficient}
+use Rattle.published.specs.Start.{Polynomials, width, stepCount, f, g, coefficient}
 use Rattle.published.specs.Pairing.{degreeF, degreeG}
 use Rattle.published.specs.Steps.{after, messageOf}
 use Rattle.published.specs.Picture.{picture}
@@ -65,7 +63,7 @@ module _ {𝓢 : Symbols} {q : ℕ} (𝓛 : Laws 𝓢 q) (𝓐 : Arranged 𝓢 q
 
     -- what the votes and the work area mean after t steps
     pub meaning-after : Meaning 𝓢 q u row t output work
-    unfolding pointCount
+    unfolding pointCount width
     meaning-after = record {
       zeros = λ p m hp hm.
           ap (valueWith 𝓢 q work p (pointAt 𝓢 q m)) (unexplained-is m)
@@ -74,8 +72,8 @@ module _ {𝓢 : Symbols} {q : ℕ} (𝓛 : Laws 𝓢 q) (𝓐 : Arranged 𝓢 q
       degreeF = degreeF 𝓢 q S;
       leadingG = leading-g;
       leadingF = leading-f;
-      degrees = Nat.add-comm (total q (degreeG 𝓢 q S)) (total q (degreeF 𝓢 q S)) ∙ R .led .sum;
-      narrow = λ p hp. occurs-within 𝓢 q work p;
+      degrees = omega (arith, R .led .sum);
+      narrow = λ p hp m o. omega (arith, occurs-within 𝓢 q work p m o);
       nothingLost = nothing-lost 𝓛 𝓐 u (map symbol row) t h;
     }
 

@@ -1,15 +1,14 @@
 -- No rule of the start or of a step gives a coefficient past x^(q²+2q-2), so that the work area loses none.
-use mathlib.Core.Path.{ap, _∙_}
 use mathlib.Core.List.{List}
 use Prim.Native.Nat.{ℕ, suc, _-_, _≤_, _<_}
 use native.Mathlib.Omega.{arith}
 use Rattle.algebra.specs.Symbols.{Symbols, Laws}
 use Rattle.curve.proofs.Arranged.{Arranged}
-use Rattle.published.specs.Start.{Polynomials, startWeight, stepCount, h, table, startPart}
+use Rattle.published.specs.Start.{Polynomials, width, startWeight, stepCount, h, table, startPart}
 use Rattle.published.specs.Pairing.{pairing, positivePart, negativePart}
-use Rattle.published.specs.Steps.{substitutedPart, ratio, after}
+use Rattle.published.specs.Steps.{substitutedPart, raisedPart, reducedPart, ratio, after}
 use Rattle.published.specs.Meaning.{Fits, voteOn, reached, StepFits, NothingLost}
-use Rattle.published.proofs.Widths.{past-width, weight-before}
+use Rattle.published.proofs.Widths.{weight-before}
 use Rattle.published.proofs.Parts.{Parts, Narrow}
 use Rattle.published.proofs.Simultaneous.{raisedPart-cong, reducedPart-cong}
 use Rattle.published.proofs.InPlace.{InPlace}
@@ -21,32 +20,31 @@ use Rattle.published.proofs.After.{reached as reached-after}
 
 -- what has nothing past the width has nothing past x^(q²+2q-2)
 narrow-fits : (𝓢 : Symbols) (q : ℕ) (F : Parts 𝓢 q) → Narrow 𝓢 q F → Fits 𝓢 q F
-unfolding Fits
-narrow-fits 𝓢 q F narrow part j n ht hj h = narrow part j n ht hj (past-width q n h)
+unfolding Fits width
+narrow-fits 𝓢 q F narrow part j n ht hj h = narrow part j n ht hj (omega arith)
 
 module _ {𝓢 : Symbols} {q : ℕ} (𝓛 : Laws 𝓢 q) where
   open Symbols 𝓢 using (K)
 
   -- a step
   step-fits : (u s : ℕ) (S : Polynomials 𝓢 q) → InPlace 𝓢 q (suc s) S → StepFits 𝓢 q u s S
-  unfolding Fits reached
+  unfolding reached
   step-fits u s S led = record {
     substitution = λ p hp.
-        let w = voteOn 𝓢 q u s S in
         let can = vote-substitutable 𝓛 u s S in
-        narrow-fits 𝓢 q (substitutedPart 𝓢 q s w S p) (substitution-narrow 𝓛 s w S can led p hp);
-    raised = λ i hi part j n ht hj h.
+        narrow-fits 𝓢 q (substitutedPart 𝓢 q s (voteOn 𝓢 q u s S) S p) (substitution-narrow 𝓛 s (voteOn 𝓢 q u s S) S can led p hp);
+    raised = λ i hi.
         let P = pairing 𝓢 q u s S i in
         let r = ratio 𝓢 q (voteOn 𝓢 q u s S) P in
-        let before = pair-before 𝓛 u s S i hi in
-        ap (λ (F : Parts 𝓢 q). F part j n) (raisedPart-cong 𝓢 q i (P .partner) (positivePart (P .c)) r before)
-        ∙ raised-narrow 𝓛 u s S led i hi r part j n ht hj (past-width q n h);
-    reduced = λ i hi part j n ht hj h.
+        let c = positivePart (P .c) in
+        let same = raisedPart-cong 𝓢 q i (P .partner) c r (pair-before 𝓛 u s S i hi) in
+        narrow-fits 𝓢 q (raisedPart 𝓢 q (reached 𝓢 q u s S i) i (P .partner) c r) (rw same (raised-narrow 𝓛 u s S led i hi r));
+    reduced = λ i hi.
         let P = pairing 𝓢 q u s S i in
         let r = ratio 𝓢 q (voteOn 𝓢 q u s S) P in
-        let before = pair-before 𝓛 u s S i hi in
-        ap (λ (F : Parts 𝓢 q). F part j n) (reducedPart-cong 𝓢 q i (P .partner) (negativePart (P .c)) r before)
-        ∙ reduced-narrow 𝓛 u s S led i hi r part j n ht hj (past-width q n h);
+        let c = negativePart (P .c) in
+        let same = reducedPart-cong 𝓢 q i (P .partner) c r (pair-before 𝓛 u s S i hi) in
+        narrow-fits 𝓢 q (reducedPart 𝓢 q (reached 𝓢 q u s S i) i (P .partner) c r) (rw same (reduced-narrow 𝓛 u s S led i hi r));
   }
 
   -- the start and the steps up to t

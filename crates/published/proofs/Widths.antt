@@ -6,16 +6,6 @@ use native.Mathlib.Omega.{arith}
 use Rattle.algebra.specs.Weights.{weight}
 use Rattle.published.specs.Start.{width, startWeight, stepCount}
 
--- past x^(q²+2q-2) is past the width
-pub past-width : (q i : ℕ) → q * q + 2 * q - 2 < i → width q ≤ i
-unfolding width
-past-width q i h = omega arith
-
--- and within the width is at most that
-pub within-width : (q i : ℕ) → i < width q → i ≤ q * q + 2 * q - 2
-unfolding width
-within-width q i h = omega arith
-
 -- the step with weight s is made of what holds at s + 1
 pub weight-before : (q t : ℕ) → t < stepCount q → stepCount q - t ≡ suc (startWeight q - t)
 unfolding stepCount
