@@ -3,3 +3,4 @@ mod Differing
 mod RowNumbers
 mod Judgements
 pub mod ReadingBack
+mod Passing
