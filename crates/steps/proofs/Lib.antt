@@ -14,3 +14,10 @@ mod ChangeLaws
 mod ReplaceLaws
 pub mod NarrowLaws
 mod StepLaws
+mod StartBytes
+mod StartRows
+mod StartFirsts
+mod StartParts
+mod StartColumns
+mod StartKinds
+mod StartCells

@@ -2,3 +2,4 @@ pub mod Area
 pub mod Pairs
 pub mod Stop
 pub mod Step
+pub mod StartArea

@@ -1,0 +1,114 @@
+-- Each turn adds the column to one row more.
+-- Assumes nothing.
+use mathlib.Core.Path.{_≡_}
+use Prim.Native.Nat.{_+_, _-_, _≤_}
+use native.Mathlib.Omega.{arith}
+use lib.ListN.{length}
+use Rattle.steps.specs.Area.{Turns}
+use Rattle.steps.specs.StartArea.{columnOf, rowsPlus}
+use Rattle.steps.proofs.Cells.{row-fits, turns-none, turns-same, turns-both}
+use Rattle.steps.proofs.Sizes.{sizes}
+use Rattle.steps.proofs.StartRows.{plus-none, plus-more}
+use Rattle.steps.proofs.StartColumns.{x-values, column-turns}
+use borrow.Author.Needs.{needs}
+use Rattle.steps.proofs.start.add_column.Statement.{statement}
+use Rattle.steps.proofs.start.add_column.Tie as tie
+
+abbrev Inv-loop : tie.InvT-loop
+Inv-loop work₀ q row a sums values j₀ work j = (j ≤ q) × (length work ≡ length work₀) × Turns q work₀ work (rowsPlus q q q j (columnOf q row a))
+
+abbrev μ-loop : tie.MeasureT-loop
+μ-loop work₀ q row a sums values j₀ work j = q - j
+
+column-sums-requires : tie.Need-column-sums-requires Inv-loop μ-loop
+column-sums-requires c κs = search needs
+
+mul-add-part : tie.Need-mul-add-part Inv-loop μ-loop
+mul-add-part c = search needs
+
+cast-add-part : tie.Need-cast-add-part Inv-loop μ-loop
+cast-add-part c = let s = c .before .before .before in omega (arith, s .pre .1 .1, sizes _ (s .pre .0 .known) .square-few)
+
+add-part-requires : tie.Need-add-part-requires Inv-loop μ-loop
+add-part-requires c κs =
+    let known = c .before .before .before .pre .0 .known in
+    let z = sizes _ known in
+    (known, (omega (arith, z .square-some), z .square-few, omega (arith, z .square-some)))
+
+loop-holds : tie.Need-loop-holds Inv-loop μ-loop
+loop-holds c =
+    let s = c .before .before .before .before in
+    (search needs, search needs, turns-same _ (λ S p r i hp hr hi. plus-none _ (s .pre .0 .known) _ _ _ S p r i) (turns-none _))
+
+array-read-products-of : tie.Need-array-read-products-of Inv-loop μ-loop
+array-read-products-of c = search needs
+
+products-of-requires : tie.Need-products-of-requires Inv-loop μ-loop
+products-of-requires c κs = search needs
+
+add-row-place : tie.Need-add-row-place Inv-loop μ-loop
+add-row-place c = search needs
+
+row-place-requires : tie.Need-row-place-requires Inv-loop μ-loop
+row-place-requires c κs = search needs
+
+mul-add-values : tie.Need-mul-add-values Inv-loop μ-loop
+mul-add-values c = search needs
+
+add-values-requires : tie.Need-add-values-requires Inv-loop μ-loop
+add-values-requires c κs =
+    let s = c .before .before .before .before .before .before .before .before .before in
+    let j = c .before .before .before .loop-test .taken in
+    let fits = row-fits (s .args .q) (s .args .q + c .before .before .before .before .loop .j) (s .pre .0) (omega (arith, s .pre .0 .some)) (omega arith) in
+    (rw (c .before .row-place .ensures) (omega (arith, fits, s .pre .0 .square, c .before .before .before .before .loop .inv .1)), sizes _ (s .pre .0 .known) .square-few)
+
+add-j : tie.Need-add-j Inv-loop μ-loop
+add-j c = search needs
+
+loop-less : tie.Need-loop-less Inv-loop μ-loop
+loop-less c = search needs
+
+loop-again : tie.Need-loop-again Inv-loop μ-loop
+loop-again c =
+    let s = c .before .before .before .before .before .before .before .before .before .before .before .before in
+    let j = c .before .before .before .before .before .before .loop-test .taken in
+    let values = x-values _ (s .pre .0 .known) _ _ (c .before .before .before .before .before .before .before .before .add-part .ensures) in
+    let sum = c .before .before .before .before .before .before .before .before .before .column-sums .ensures .at _ j in (
+      search needs,
+      search needs,
+      turns-same _ (λ S p r i hp hr hi. plus-more _ (s .pre .0 .known) _ _ _ S _ p r i)
+          (turns-both _ (c .before .before .before .before .before .before .before .loop .inv .2)
+          (column-turns _ (s .pre .0 .known) _ _ _ _ _ _ _ _ _ _ _ values (omega (arith, s .pre .0 .some)) (omega arith) sum
+          (c .before .before .before .before .row-place .ensures) (c .before .before .before .before .before .products-of .ensures) (c .before .before .add-values .ensures))),
+    )
+
+same-length : tie.Need-same-length Inv-loop μ-loop
+same-length c = search needs
+
+returns : tie.Need-returns Inv-loop μ-loop
+returns c =
+    let j : c .before .loop .j ≡ c .before .before .before .before .before .before .args .q = omega arith in
+    rw j at (c .before .loop .inv .2)
+
+pub add-column-spec : {M : Type 1} → statement M
+add-column-spec =
+    tie.close
+    (tie.spec
+    Inv-loop
+    μ-loop
+    column-sums-requires
+    mul-add-part
+    cast-add-part
+    add-part-requires
+    loop-holds
+    array-read-products-of
+    products-of-requires
+    add-row-place
+    row-place-requires
+    mul-add-values
+    add-values-requires
+    add-j
+    loop-less
+    loop-again
+    same-length
+    returns)

@@ -1,0 +1,187 @@
+// The polynomials before the first step: h by interpolation, g_0 and f_0, and their products by the powers of y.
+use crate::area;
+use crate::products;
+use crate::products::Part;
+ghost use mathlib.Core.Path.{_≡_};
+ghost use mathlib.Core.Bool.{false};
+ghost use mathlib.Core.List.{List, _++_, map};
+ghost use Prim.Native.Nat.{ℕ, _+_, _*_, _<_, _≤_};
+ghost use lib.ListN.{length, drop, replicate};
+ghost use Rattle.symbols.specs.Rule.{Known, Sym, symbols, symbol, anyBeyond};
+ghost use Rattle.curve.specs.Codes.{pointCount};
+ghost use Rattle.published.specs.Start.{start};
+ghost use Rattle.published.specs.Picture.{areaSize, picture};
+ghost use Rattle.steps.specs.Area.{Area, Turns, shown};
+ghost use Rattle.steps.specs.StartArea.{plusValues, Holds, plusPart, columnSum, columnOf, columnsOf, rowsPlus, blank, firsts, begun};
+
+// Sets the first `count` bytes to zero.
+pub fn clear(work: &mut [u8], count: usize)
+    requires { ⌜ count ≤ length (now work) ⌝ }
+    ensures { λ _. ⌜ now (work .exit) ≡ replicate count 0 ++ drop count (now (work .entry)) ⌝ }
+{
+    for i in 0..count {
+        work[i] = 0;
+    }
+}
+
+// Puts x^(q²) - x in the lower part of g_0 and 1 in the upper part of f_0; minus equals plus.
+fn put_firsts(work: &mut [u8], q: usize)
+    requires { ⌜ Area q (length (now work)) ⌝ }
+    ensures { λ _. ⌜ ((rest : List ℕ) → now (work .entry) ≡ shown q (blank q) ++ rest → now (work .exit) ≡ shown q (firsts q) ++ rest) ⌝ }
+{
+    let one = area::row_place(q, q, 0);
+    work[one] = 1;
+    let vanishing = area::row_place(q, 0, q);
+    work[vanishing + 1] = 1;
+    work[vanishing + q * q] = 1;
+}
+
+// Adds `factor` times 1 + Σ x^i·a^(n-1-i) to a sum of powers of x below n. Going down, the powers of a rise.
+fn add_part(sums: [u8; 16], q: usize, n: usize, a: u8, factor: u8) -> [u8; 16]
+    requires { ⌜ Known q ⌝ }
+    requires { ⌜ (0 < n) × (n ≤ 16) × (factor < q * q) ⌝ }
+    ensures { λ r. ⌜ ((F : ℕ → Sym q) → Holds q sums n F → Holds q r n (plusPart q n (symbol q a) (symbol q factor) F)) ⌝ }
+{
+    let products = symbols::products_of(q, a);
+    let mut result = sums;
+    let mut term = factor;
+    let mut i = n;
+    while 0 < i {
+        i -= 1;
+        result[i] = result[i] ^ term;
+        term = products[(term % 16) as usize];
+    }
+    result[0] = result[0] ^ factor;
+    result
+}
+
+// The received symbols above the x with number a, times the parts in y of their points.
+fn column_sums(q: usize, row: &[u8], a: usize) -> [u8; 16]
+    requires { ⌜ Known q ⌝ }
+    requires { ⌜ (length (now row) ≡ pointCount q) × (anyBeyond q (now row) ≡ false) ⌝ }
+    requires { ⌜ a < q * q ⌝ }
+    ensures { λ r. ⌜ Holds q r q (columnSum q (now (row .entry)) a q) ⌝ }
+{
+    let ordinates = curve::ordinates(q, a as u8);
+    let mut sums = [0u8; 16];
+    for b in 0..q {
+        let more = add_part(sums, q, q, ordinates[b], row[a * q + b]);
+        sums = more;
+    }
+    sums
+}
+
+// Adds to the n bytes from `to` on the values, each times what `products` is the table row of.
+fn add_values(work: &mut [u8], to: usize, n: usize, values: [u8; 16], products: [u8; 16])
+    requires { ⌜ (to + n ≤ length (now work)) × (n ≤ 16) ⌝ }
+    ensures { λ _. ⌜ now (work .exit) ≡ plusValues (now (work .entry)) to n values products ⌝ }
+{
+    for i in 0..n {
+        let factor = (values[i] % 16) as usize;
+        work[to + i] = work[to + i] ^ products[factor];
+    }
+}
+
+// Adds to the lower part of f_0 what the points above the x with number a give to h.
+fn add_column(work: &mut [u8], q: usize, row: &[u8], a: usize)
+    requires { ⌜ Area q (length (now work)) ⌝ }
+    requires { ⌜ (length (now row) ≡ pointCount q) × (anyBeyond q (now row) ≡ false) ⌝ }
+    requires { ⌜ a < q * q ⌝ }
+    ensures { λ _. ⌜ Turns q (now (work .entry)) (now (work .exit)) (rowsPlus q q q q (columnOf q (now (row .entry)) a)) ⌝ }
+{
+    let sums = column_sums(q, row, a);
+    let values = add_part([0u8; 16], q, q * q, a as u8, 1);
+    for j in 0..q {
+        let products = symbols::products_of(q, sums[j]);
+        let to = area::row_place(q, q, q + j);
+        add_values(work, to, q * q, values, products);
+    }
+}
+
+// Adds h to the lower part of f_0; minus equals plus.
+fn add_h(work: &mut [u8], q: usize, row: &[u8])
+    requires { ⌜ Area q (length (now work)) ⌝ }
+    requires { ⌜ (length (now row) ≡ pointCount q) × (anyBeyond q (now row) ≡ false) ⌝ }
+    ensures { λ _. ⌜ Turns q (now (work .entry)) (now (work .exit)) (rowsPlus q q q q (columnsOf q (now (row .entry)) (q * q))) ⌝ }
+{
+    for a in 0..q * q {
+        add_column(work, q, row, a);
+    }
+}
+
+// Makes g_i and f_i of g_0 and f_0: y^i times each of their parts.
+fn add_multiples(work: &mut [u8], q: usize, i: usize)
+    requires { ⌜ Area q (length (now work)) ⌝ }
+    requires { ⌜ (0 < i) × (i < q) ⌝ }
+    ensures { λ _. ⌜ ((h : List (List (Sym q))) (rest : List ℕ) → now (work .entry) ≡ shown q (begun q h i) ++ rest → now (work .exit) ≡ shown q (begun q h (i + 1)) ++ rest) ⌝ }
+{
+    let one = symbols::products_of(q, 1);
+    products::add_product(
+        work,
+        q,
+        Part {
+            polynomial: i,
+            row: q,
+        },
+        Part {
+            polynomial: 0,
+            row: q,
+        },
+        0,
+        i,
+        one,
+    );
+    products::add_product(
+        work,
+        q,
+        Part {
+            polynomial: q + i,
+            row: 0,
+        },
+        Part {
+            polynomial: q,
+            row: 0,
+        },
+        0,
+        i,
+        one,
+    );
+    products::add_product(
+        work,
+        q,
+        Part {
+            polynomial: q + i,
+            row: q,
+        },
+        Part {
+            polynomial: q,
+            row: q,
+        },
+        0,
+        i,
+        one,
+    );
+}
+
+// Makes all of them.
+fn add_all_multiples(work: &mut [u8], q: usize)
+    requires { ⌜ Area q (length (now work)) ⌝ }
+    ensures { λ _. ⌜ ((h : List (List (Sym q))) (rest : List ℕ) → now (work .entry) ≡ shown q (begun q h 1) ++ rest → now (work .exit) ≡ shown q (begun q h q) ++ rest) ⌝ }
+{
+    for i in 1..q {
+        add_multiples(work, q, i);
+    }
+}
+
+// Puts the polynomials before the first step on a received row into the work area.
+pub fn begin(q: usize, row: &[u8], work: &mut [u8])
+    requires { ⌜ Known q ⌝ }
+    requires { ⌜ (length (now row) ≡ pointCount q) × (anyBeyond q (now row) ≡ false) ⌝ }
+    requires { ⌜ areaSize q ≤ length (now work) ⌝ }
+    ensures { λ _. ⌜ now (work .exit) ≡ picture (symbols q) q (start (symbols q) q (map (symbol q) (now (row .entry)))) ++ drop (areaSize q) (now (work .entry)) ⌝ }
+{
+    clear(work, area::area_size(q));
+    put_firsts(work, q);
+    add_h(work, q, row);
+    add_all_multiples(work, q);
+}
