@@ -1,9 +1,10 @@
 // Weights, codes and points of the curve y^q + y = x^(q+1).
 use refusals::Refusal;
 ghost use mathlib.Core.Path.{_≡_};
-ghost use Prim.Native.Nat.{_<_};
+ghost use Prim.Native.Nat.{_+_, _<_};
+ghost use Rattle.algebra.specs.Symbols.{power};
 ghost use Rattle.algebra.specs.Weights.{gap};
-ghost use Rattle.symbols.specs.Rule.{Known};
+ghost use Rattle.symbols.specs.Rule.{Known, symbols, number, symbol};
 ghost use Rattle.curve.specs.Codes.{pointCount, isCode, dimension as dimensionOf, reach as reachOf};
 ghost use Rattle.curve.specs.Answers.{monomialOf, codeAnswer};
 ghost use Rattle.curve.specs.Ordinates.{setPlace, ordinatesAbove, pointNumbers};
@@ -118,6 +119,21 @@ pub fn reach(q: usize, u: usize) -> usize
     if u < n { (n - u - 1) / 2 } else { 0 }
 }
 
+// x^(q+1), by the products of x: it chooses the set of ordinates.
+fn norm(q: usize, x: u8) -> u8
+    requires { ⌜ Known q ⌝ }
+    ensures { λ r. ⌜ r ≡ number q (power (symbols q) (symbol q x) (q + 1)) ⌝ }
+{
+    let products = symbols::products_of(q, x);
+    let mut value = 1u8;
+    let mut i = 0;
+    while i < q + 1 {
+        value = products[(value % 16) as usize];
+        i += 1;
+    }
+    value
+}
+
 // The place of the set that belongs to x⁵.
 fn set_place(norm: u8) -> usize
     ensures { λ r. ⌜ r ≡ setPlace norm ⌝ }
@@ -135,7 +151,7 @@ pub fn ordinates(q: usize, x: u8) -> [u8; 4]
     requires { ⌜ Known q ⌝ }
     ensures { λ r. ⌜ r ≡ ordinatesAbove q x ⌝ }
 {
-    let norm = symbols::power(q, x, q + 1);
+    let norm = norm(q, x);
     if q == 4 {
         let place = set_place(norm);
         SETS_4[place]

@@ -82,8 +82,8 @@ fn fill_fibre(q: usize, x: usize, values: &[u8], row: &mut [u8])
     }
 }
 
-// The row of a message, written to the first n places. A row of the tape code takes 992 products: at each of the 16 x eleven
-// for each of the 4 powers of y, six for x⁵, and then three at each of the 4 points above it.
+// The row of a message, written to the first n places. A row of the tape code takes 976 products: at each of the 16 x eleven
+// for each of the 4 powers of y, five for x⁵, and then three at each of the 4 points above it.
 pub fn encode_row(q: usize, u: usize, message: &[u8], row: &mut [u8])
     requires { ⌜ Encodable q u (now message) (now row) ⌝ }
     ensures { λ r. ⌜ now (row .exit) ≡ rowNumbers q u (now (message .entry)) ++ drop (pointCount q) (now (row .entry)) ⌝ }

@@ -2,26 +2,22 @@
 use native.Mathlib.Omega.{arith}
 use borrow.Author.Needs.{needs}
 use borrow.Author.Tests.{eq-eqb, ne-eqb}
-use Rattle.symbols.proofs.Bytes.{known-high}
 use Rattle.curve.specs.Ordinates.{sets4, sets2, ordinateSet, ordinatesAbove}
 use Rattle.curve.proofs.OrdinateSets.{place-small}
 use Rattle.curve.proofs.ordinates.Statement.{statement}
 use Rattle.curve.proofs.ordinates.Tie as tie
 
-add-power : tie.Need-add-power
-add-power c = omega (arith, known-high _ (c .pre))
-
-power-requires : tie.Need-power-requires
-power-requires c κs = search needs
+norm-requires : tie.Need-norm-requires
+norm-requires c κs = search needs
 
 set-place-requires : tie.Need-set-place-requires
 set-place-requires c κs = search needs
 
 mul-result : tie.Need-mul-result
-mul-result c = omega (arith, c .set-place .ensures, place-small (c .before .before .power .result))
+mul-result c = omega (arith, c .set-place .ensures, place-small (c .before .before .norm .result))
 
 array-copy-out-result : tie.Need-array-copy-out-result
-array-copy-out-result c = omega (arith, c .set-place .ensures, place-small (c .before .before .power .result))
+array-copy-out-result c = omega (arith, c .set-place .ensures, place-small (c .before .before .norm .result))
 
 cast-place : tie.Need-cast-place
 cast-place c = search needs
@@ -34,18 +30,17 @@ array-copy-out-result-2 c = search needs
 
 returns : tie.Need-returns
 unfolding ordinatesAbove ordinateSet sets4
-returns c = rw (eq-eqb _ _ (c .before .before .if1 .taken), c .before .set-place .ensures, c .before .before .before .power .ensures)
+returns c = rw (eq-eqb _ _ (c .before .before .if1 .taken), c .before .set-place .ensures, c .before .before .before .norm .ensures)
 
 returns-2 : tie.Need-returns-2
 unfolding ordinatesAbove ordinateSet sets2
-returns-2 c = rw (ne-eqb _ _ (c .before .if1 .left), c .before .before .power .ensures)
+returns-2 c = rw (ne-eqb _ _ (c .before .if1 .left), c .before .before .norm .ensures)
 
 pub ordinates-spec : {M : Type 1} → statement M
 ordinates-spec =
     tie.close
     (tie.spec
-    add-power
-    power-requires
+    norm-requires
     set-place-requires
     mul-result
     array-copy-out-result
