@@ -5,7 +5,7 @@ use mathlib.Core.Bool.{true, false}
 use mathlib.Core.List.{List}
 use mathlib.Core.Logic.{_⊎_, inl, inr, ⊎-elim}
 use Prim.Native.Nat.{ℕ, _+_, _-_, _*_, _/_, _%_, _<_, _≤_}
-use native.Mathlib.Nat.{mod-eq-of-lt, add-mod-left}
+use native.Mathlib.Nat.{mod-eq-of-lt, add-mod-left, zero-add}
 use native.Mathlib.Omega.{arith}
 use borrow.Author.Tests.{lt-ltb, le-ltb}
 use Rattle.algebra.specs.Symbols.{Symbols}
@@ -21,7 +21,7 @@ use Rattle.published.proofs.Reading.{row-part, row-power}
 use Rattle.published.proofs.StartLeads.{startG-upper, startG-lower, startF-upper, startF-lower}
 use Rattle.steps.specs.Area.{Apart, Multiplies, Cells, functionOf, plusProduct, productAdded, upperOf, lowerOf}
 use Rattle.steps.specs.declared.products.Part.{Part}
-use Rattle.steps.specs.StartArea.{begun}
+use Rattle.steps.specs.StartArea.{begun, multipleAdded}
 use Rattle.steps.proofs.Cells.{rows-in, rows-out}
 use Rattle.steps.proofs.RowLaws.{multiplies}
 use Rattle.steps.proofs.Turned.{timesYs-cong}
@@ -34,14 +34,15 @@ each-row q P up low r hr =
     (λ (l : q ≤ r). let e : q + (r - q) ≡ r = omega arith in rw e at (low (r - q) (omega arith)))
     (lt-or-ge r q)
 
--- the same part of f_i and of f_0
-pub multiples-apart : (q i d : ℕ) → 0 < i → i < q → d ≤ q → Apart q (record { polynomial = q + i; row = d }) (record { polynomial = q; row = d })
-multiples-apart q i d some hi hd =
+-- the same part of two polynomials of a kind
+pub multiple-apart : (q first row i : ℕ) → first ≤ q → row ≤ q → 0 < i → i < q
+    → Apart q (record { polynomial = first + i; row = row }) (record { polynomial = first; row = row })
+multiple-apart q first row i hf hr some hi =
     record {
       to-polynomial = omega arith;
-      to-row = hd;
+      to-row = hr;
       from-polynomial = omega arith;
-      from-row = hd;
+      from-row = hr;
       rows = λ j k hj hk e z. omega arith;
     }
 
@@ -144,17 +145,17 @@ module _ (q : ℕ) (known : Known q) where
 
     -- g_i, the upper part of f_i, and its lower part
     abbrev S₁ : Cells q
-    S₁ = productAdded q (lowerOf q i) (lowerOf q 0) 0 i 𝟙 q S₀
+    S₁ = multipleAdded q 0 q i S₀
 
     abbrev S₂ : Cells q
-    S₂ = productAdded q (upperOf q (q + i)) (upperOf q q) 0 i 𝟙 q S₁
+    S₂ = multipleAdded q q 0 i S₁
 
     abbrev S₃ : Cells q
-    S₃ = productAdded q (lowerOf q (q + i)) (lowerOf q q) 0 i 𝟙 q S₂
+    S₃ = multipleAdded q q q i S₂
 
     -- what each of the three leaves as it was
     kept₁ : (p r k : ℕ) → (p ≡ i → r < q) → S₁ p r k ≡ S₀ p r k
-    kept₁ p r k out = kept (lowerOf q i) (lowerOf q 0) i S₀ p r k (λ e. inl (out e))
+    kept₁ p r k out = kept (lowerOf q (0 + i)) (lowerOf q 0) i S₀ p r k (λ e. inl (out (omega arith)))
 
     kept₂ : (p r k : ℕ) → (p ≡ q + i → q ≤ r) → S₂ p r k ≡ S₁ p r k
     kept₂ p r k out = kept (upperOf q (q + i)) (upperOf q q) i S₁ p r k (λ e. inr (let z = out e in omega arith))
@@ -167,8 +168,9 @@ module _ (q : ℕ) (known : Known q) where
     unfolding timesYs
     g-made j k hj =
         kept₃ i (q + j) k (λ e. absurd (omega arith)) ∙ kept₂ i (q + j) k (λ e. absurd (omega arith))
-        ∙ made (lowerOf q i) (lowerOf q 0) i S₀ (vanishing (symbols q) q)
-        (λ j k hj. begun-out H i i (q + j) k (rw (mod-eq-of-lt hi) (omega arith)))
+        ∙ ap (λ (p : ℕ). S₁ p (q + j) k) (sym (zero-add i))
+        ∙ made (lowerOf q (0 + i)) (lowerOf q 0) i S₀ (vanishing (symbols q) q)
+        (λ j k hj. begun-out H i (0 + i) (q + j) k (rw (zero-add i, mod-eq-of-lt hi) (omega arith)))
         (λ j k hj. g-lower H i 0 some (omega arith) j k hj)
         j k hj
 

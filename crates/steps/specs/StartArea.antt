@@ -15,7 +15,7 @@ use Rattle.lists.specs.Tables.{put}
 use Rattle.symbols.specs.Rule.{symbols, number}
 use Rattle.curve.specs.Points.{pointAt}
 use Rattle.published.specs.Start.{vanishing, one, startPart}
-use Rattle.steps.specs.Area.{Cells, withRows}
+use Rattle.steps.specs.Area.{Cells, withRows, productAdded}
 
 -- the byte at `to` plus a value times what `products` is the table row of
 abbrev pub plusValue : List ℕ → ℕ → List ℕ → List ℕ → ℕ → ℕ
@@ -28,7 +28,7 @@ plusValues l to n values products = put l to n (plusValue l to values products)
 module _ (q : ℕ) where
   infixl 65 _⊕_
   infixl 70 _⊗_
-  open Symbols (symbols q) using (K, 𝟘, _⊕_, _⊗_, symbol)
+  open Symbols (symbols q) using (K, 𝟘, 𝟙, _⊕_, _⊗_, symbol)
 
   -- n bytes that are the numbers of F
   pub record Holds (l : List ℕ) (n : ℕ) (F : ℕ → K) : Type 0 where
@@ -68,3 +68,7 @@ module _ (q : ℕ) where
   -- the first n of the g_i and of the f_i in their places, with the coefficients of h, and zeros for the others
   unfoldable pub begun : List (List K) → ℕ → Cells q
   begun h n p r i = elim (ltb (p % q) n) [ true ↦ startPart (symbols q) q h p (r / q) (r % q) i | false ↦ 𝟘 ]
+
+  -- y^i times a part of polynomial `first` added to that of the polynomial i places on
+  abbrev pub multipleAdded : ℕ → ℕ → ℕ → Cells q → Cells q
+  multipleAdded first row i = productAdded q (record { polynomial = first + i; row = row }) (record { polynomial = first; row = row }) 0 i 𝟙 q

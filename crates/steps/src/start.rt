@@ -12,7 +12,7 @@ ghost use Rattle.curve.specs.Codes.{pointCount};
 ghost use Rattle.published.specs.Start.{start};
 ghost use Rattle.published.specs.Picture.{areaSize, picture};
 ghost use Rattle.steps.specs.Area.{Area, Turns, shown};
-ghost use Rattle.steps.specs.StartArea.{plusValues, Holds, plusPart, columnSum, columnOf, columnsOf, rowsPlus, blank, firsts, begun};
+ghost use Rattle.steps.specs.StartArea.{plusValues, Holds, plusPart, columnSum, columnOf, columnsOf, rowsPlus, blank, firsts, begun, multipleAdded};
 
 // Sets the first `count` bytes to zero.
 pub fn clear(work: &mut [u8], count: usize)
@@ -109,58 +109,32 @@ fn add_h(work: &mut [u8], q: usize, row: &[u8])
     }
 }
 
-// Makes g_i and f_i of g_0 and f_0: y^i times each of their parts.
+// Adds y^i times a part of polynomial `first` to that of the polynomial i places on.
+fn add_multiple(work: &mut [u8], q: usize, first: usize, row: usize, i: usize)
+    requires { ⌜ Area q (length (now work)) ⌝ }
+    requires { ⌜ (first ≤ q) × (row ≤ q) × (0 < i) × (i < q) ⌝ }
+    ensures { λ _. ⌜ Turns q (now (work .entry)) (now (work .exit)) (multipleAdded q first row i) ⌝ }
+{
+    let to = Part {
+        polynomial: first + i,
+        row,
+    };
+    let from = Part {
+        polynomial: first,
+        row,
+    };
+    products::add_product(work, q, to, from, 0, i, symbols::products_of(q, 1));
+}
+
+// Makes g_i and f_i of g_0 and f_0; g_i has no upper part.
 fn add_multiples(work: &mut [u8], q: usize, i: usize)
     requires { ⌜ Area q (length (now work)) ⌝ }
     requires { ⌜ (0 < i) × (i < q) ⌝ }
     ensures { λ _. ⌜ ((h : List (List (Sym q))) (rest : List ℕ) → now (work .entry) ≡ shown q (begun q h i) ++ rest → now (work .exit) ≡ shown q (begun q h (i + 1)) ++ rest) ⌝ }
 {
-    let one = symbols::products_of(q, 1);
-    products::add_product(
-        work,
-        q,
-        Part {
-            polynomial: i,
-            row: q,
-        },
-        Part {
-            polynomial: 0,
-            row: q,
-        },
-        0,
-        i,
-        one,
-    );
-    products::add_product(
-        work,
-        q,
-        Part {
-            polynomial: q + i,
-            row: 0,
-        },
-        Part {
-            polynomial: q,
-            row: 0,
-        },
-        0,
-        i,
-        one,
-    );
-    products::add_product(
-        work,
-        q,
-        Part {
-            polynomial: q + i,
-            row: q,
-        },
-        Part {
-            polynomial: q,
-            row: q,
-        },
-        0,
-        i,
-        one,
-    );
+    add_multiple(work, q, 0, q, i);
+    add_multiple(work, q, q, 0, i);
+    add_multiple(work, q, q, q, i);
 }
 
 // Makes all of them.
