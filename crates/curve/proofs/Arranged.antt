@@ -28,7 +28,8 @@ module _ (𝓢 : Symbols) (q : ℕ) where
     pub count : length (points 𝓢 q) ≡ pointCount q
     pub abscissa : (a b : ℕ) → a < q * q → b < q → pointAt 𝓢 q (a * q + b) .x ≡ symbol a
     pub on-curve : (a b : ℕ) → a < q * q → b < q → OnCurve 𝓢 q (pointAt 𝓢 q (a * q + b) .x) (pointAt 𝓢 q (a * q + b) .y)
-    pub rising : (a b c : ℕ) → a < q * q → b < q → c < b → number (pointAt 𝓢 q (a * q + c) .y) < number (pointAt 𝓢 q (a * q + b) .y)
+    pub rising : (a b c : ℕ) → a < q * q → b < q → c < b
+        → number (pointAt 𝓢 q (a * q + c) .y) < number (pointAt 𝓢 q (a * q + b) .y)
 
   -- point m of a list of points
   abbrev pub at : List (Point 𝓢 q) → ℕ → Point 𝓢 q
@@ -97,5 +98,7 @@ module _ {𝓢 : Symbols} {q : ℕ} (𝓛 : Laws 𝓢 q) (A : Arranged 𝓢 q) w
             (λ (l : b′ < b). absurd (omega (arith, A .rising a b b′ ha hb l, ap number e)))
             other)
             (same-or-apart b b′);
-        on-curve = λ a b ha hb. subst (λ x. OnCurve 𝓢 q x (pointAt 𝓢 q (a * q + b) .y)) (A .abscissa a b ha hb) (A .on-curve a b ha hb);
+        on-curve =
+            λ a b ha hb. subst (λ x. OnCurve 𝓢 q x (pointAt 𝓢 q (a * q + b) .y)) (A .abscissa a b ha hb)
+            (A .on-curve a b ha hb);
       }

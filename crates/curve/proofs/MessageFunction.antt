@@ -31,7 +31,8 @@ module _ (𝓢 : Symbols) (q : ℕ) where
   open Symbols 𝓢 using (K, 𝟘)
 
   -- a weight of at most u has the message's symbol for it
-  pub function-in : (u : ℕ) (message : List K) (j i : ℕ) → weight q j i ≤ u → messageFunction 𝓢 q u message j i ≡ getD message (rank q (weight q j i)) 𝟘
+  pub function-in : (u : ℕ) (message : List K) (j i : ℕ) → weight q j i ≤ u
+      → messageFunction 𝓢 q u message j i ≡ getD message (rank q (weight q j i)) 𝟘
   unfolding messageFunction
   function-in u message j i h = rw (le-ltb u (weight q j i) h, messageFunction)
 
@@ -59,10 +60,11 @@ module _ {𝓢 : Symbols} {q : ℕ} (𝓛 : Laws 𝓢 q) where
   ]
 
   module _ (u : ℕ) (message : List K) where
-    -- number m of the weights, and the message's term for it
+    -- number m of the weights
     abbrev weightOf : ℕ → ℕ
     weightOf m = getD (nongaps q u) m 0
 
+    -- the message's term for it
     term : ℕ → Fn 𝓢 q
     term m j i = getD message m 𝟘 ⊗ monomial 𝓢 q (yPower q (weightOf m)) (xPower q (weightOf m)) j i
 
@@ -106,10 +108,12 @@ module _ {𝓢 : Symbols} {q : ℕ} (𝓛 : Laws 𝓢 q) where
     term-value m x y small h =
         let positive : 0 < q = omega (arith, two-le-q 𝓛) in
         let weighs = weight-powers q (weightOf m) positive (nongaps-pass q u m h) in
-        let fits = weight-fits q (yPower q (weightOf m)) (xPower q (weightOf m)) (q * q) (omega (arith, nongaps-small q u m h)) in
+        let fits =
+        weight-fits q (yPower q (weightOf m)) (xPower q (weightOf m)) (q * q) (omega (arith, nongaps-small q u m h)) in
         valueAt-scale 𝓛 (q * q) (getD message m 𝟘) (monomial 𝓢 q (yPower q (weightOf m)) (xPower q (weightOf m))) x y
         ∙ ap (λ z. getD message m 𝟘 ⊗ z)
-        (monomial-value 𝓛 (yPower q (weightOf m)) (xPower q (weightOf m)) (q * q) x y (yPower-below q (weightOf m) positive) fits)
+        (monomial-value 𝓛 (yPower q (weightOf m)) (xPower q (weightOf m)) (q * q) x y
+        (yPower-below q (weightOf m) positive) fits)
 
     -- "Its row has at each point the value of the message's sum"
     pub function-value : u < q * (q * q) → (P : Point 𝓢 q)

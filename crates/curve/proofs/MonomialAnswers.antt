@@ -19,7 +19,8 @@ pub found : (q s x y : ℕ) → monomialOf q s ≡ Powers x y → Found q s x y
 unfolding monomialOf
 found q s x y e = go (gap q s) refl e
   where
-    go : (b : Bool) → gap q s ≡ b → elim b [ true ↦ Gap | false ↦ Powers (xPower q s) (yPower q s) ] ≡ Powers x y → Found q s x y
+    go : (b : Bool) → gap q s ≡ b → elim b [ true ↦ Gap | false ↦ Powers (xPower q s) (yPower q s) ] ≡ Powers x y
+        → Found q s x y
     go true t e = let z : _≡_ {A = ℕ} 0 1 = cc in absurd (omega arith)
     go false t e = record { nongap = t; power-x = cc; power-y = cc }
 

@@ -33,7 +33,8 @@ place-small norm = go (eqb norm 0) (eqb norm 1) (eqb norm 6)
 
 -- y number b above x = a is number b of the set that belongs to a^(q+1), as a test of a list of points
 unfoldable tested : (q : ℕ) → List (Point (symbols q) q) → Bool
-tested q Ps = all (q * q) (λ a. all q (λ b. eqb (getD (ordinatesAbove q a) b 0) (number q (at (symbols q) q Ps (a * q + b) .y))))
+tested q Ps =
+    all (q * q) (λ a. all q (λ b. eqb (getD (ordinatesAbove q a) b 0) (number q (at (symbols q) q Ps (a * q + b) .y))))
 
 -- opens all that the tests compute with
 unfoldable computing : Unit {0}
@@ -60,13 +61,15 @@ unfolding pointCount
 column-below q m k h = div-lt-iff-lt-mul (known-positive q k) .1 h
 
 -- the numbers of a point
-pub point-in : (q m : ℕ) → Known q → m < pointCount q → (m / q ≡ pointNumbers q m .x) × (getD (ordinatesAbove q (m / q)) (m % q) 0 ≡ pointNumbers q m .y)
+pub point-in : (q m : ℕ) → Known q → m < pointCount q
+    → (m / q ≡ pointNumbers q m .x) × (getD (ordinatesAbove q (m / q)) (m % q) 0 ≡ pointNumbers q m .y)
 unfolding pointNumbers
 point-in q m k h =
     let a = column-below q m k h in
     let b = mod-lt m (known-positive q k) in
     let e = div-add-mod' m q in (
-      sym (laws-of q k .number-symbol (m / q) a) ∙ ap (number q) (sym (points-arranged q k .abscissa (m / q) (m % q) a b)) ∙ ap (λ n. number q (pointAt (symbols q) q n .x)) e,
+      sym (laws-of q k .number-symbol (m / q) a) ∙ ap (number q) (sym (points-arranged q k .abscissa (m / q) (m % q) a b))
+          ∙ ap (λ n. number q (pointAt (symbols q) q n .x)) e,
       ordinate-at q k (m / q) (m % q) a b ∙ ap (λ n. number q (pointAt (symbols q) q n .y)) e,
     )
 
@@ -75,5 +78,8 @@ pub point-past : (q m : ℕ) → Known q → pointCount q ≤ m → (0 ≡ point
 unfolding pointNumbers pointAt
 point-past q m k h =
     let past : length (points (symbols q) q) ≤ m = rw (points-arranged q k .count) h in
-    let out = List·getD-eq-default (points (symbols q) q) (record { x = symbols q .𝟘; y = symbols q .𝟘 }) past in
-    (sym (ap (λ P. number q (P .x)) out ∙ laws-of q k .number-zero), sym (ap (λ P. number q (P .y)) out ∙ laws-of q k .number-zero))
+    let out = List·getD-eq-default (points (symbols q) q) (record { x = symbols q .𝟘; y = symbols q .𝟘 }) past in (
+      sym (ap (λ P. number q (P .x)) out ∙ laws-of q k .number-zero),
+      sym (ap (λ P. number q (P .y)) out
+          ∙ laws-of q k .number-zero),
+    )

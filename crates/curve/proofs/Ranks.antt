@@ -60,6 +60,7 @@ module _ (q : ℕ) where
   rank-add s zero = rw add-zero (omega arith)
   rank-add s (suc n) = rw (add-suc, ← add-one (s + n)) (omega (arith, rank-add s n, rank-step (s + n)))
 
+  -- the same for any two numbers
   pub rank-mono : {s t : ℕ} → s ≤ t → rank q s ≤ rank q t
   rank-mono {s} {t} h = let e : s + (t - s) ≡ t = omega arith in rw e at (rank-add s (t - s))
 
@@ -71,6 +72,7 @@ module _ (q : ℕ) where
   below-more : (n : ℕ) → nongap q n ≡ true → below (suc n) ≡ below n ++ (n ∷ [])
   below-more n t = rw (← add-one n) (keep-more (nongap q) n (λ s. s) t)
 
+  -- a gap is not among them
   below-same : (n : ℕ) → nongap q n ≡ false → below (suc n) ≡ below n
   below-same n t = rw (← add-one n) (keep-same (nongap q) n (λ s. s) t)
 
@@ -84,7 +86,8 @@ module _ (q : ℕ) where
       (lt-or-ge s n)
     where
       before : s < n → getD (below n) (rank q s) 0 ≡ s → (b : Bool) → nongap q n ≡ b → getD (below (suc n)) (rank q s) 0 ≡ s
-      before l e true t = rw (below-more n t) (List·getD-append (below n) (n ∷ []) 0 (rank q s) (rw length-below (rank-strict p l)) ∙ e)
+      before l e true t =
+          rw (below-more n t) (List·getD-append (below n) (n ∷ []) 0 (rank q s) (rw length-below (rank-strict p l)) ∙ e)
       before l e false t = rw (below-same n t) e
 
       last : s ≡ n → getD (below (suc n)) (rank q s) 0 ≡ s

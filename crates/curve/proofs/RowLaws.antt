@@ -30,7 +30,8 @@ module _ {𝓢 : Symbols} {q : ℕ} (A : Arranged 𝓢 q) where
   points-tab = tab-of (record { x = 𝟘; y = 𝟘 }) (points 𝓢 q) ∙ ap (λ n. tab n (pointAt 𝓢 q)) (A .count)
 
   -- a row by the points' numbers
-  pub row-tab : (u : ℕ) (message : List K) → rowOf 𝓢 q u message ≡ tab (pointCount q) (λ m. messageAt 𝓢 q (nongaps q u) message (pointAt 𝓢 q m))
+  pub row-tab : (u : ℕ) (message : List K)
+      → rowOf 𝓢 q u message ≡ tab (pointCount q) (λ m. messageAt 𝓢 q (nongaps q u) message (pointAt 𝓢 q m))
   unfolding rowOf
   row-tab u message =
       ap (map (messageAt 𝓢 q (nongaps q u) message)) points-tab
@@ -47,6 +48,7 @@ module _ {𝓢 : Symbols} {q : ℕ} (A : Arranged 𝓢 q) where
 
   -- the symbol of a row at a point is the value of the message's function there
   pub row-value : Laws 𝓢 q → (u : ℕ) (message : List K) → u < pointCount q → (m : ℕ) → m < pointCount q
-      → getD (rowOf 𝓢 q u message) m 𝟘 ≡ valueAt 𝓢 q (q * q) (messageFunction 𝓢 q u message) (pointAt 𝓢 q m .x) (pointAt 𝓢 q m .y)
+      → getD (rowOf 𝓢 q u message) m 𝟘 ≡ valueAt 𝓢 q (q * q) (messageFunction 𝓢 q u message) (pointAt 𝓢 q m .x)
+      (pointAt 𝓢 q m .y)
   row-value 𝓛 u message small m h =
       row-at u message m h ∙ sym (function-value 𝓛 u message (rw (count-is q) at small) (pointAt 𝓢 q m))

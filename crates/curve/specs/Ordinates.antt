@@ -11,10 +11,11 @@ use Rattle.symbols.specs.Rule.{symbols, number, symbol}
 use Rattle.curve.specs.declared.Point.{Point}
 use Rattle.curve.specs.Points.{pointAt}
 
--- the four sets for q = 4, and the place among them of the one that belongs to x⁵
+-- the four sets for q = 4
 unfoldable pub sets4 : List (List ℕ)
 sets4 = (0 ∷ 1 ∷ 6 ∷ 7 ∷ []) ∷ (2 ∷ 3 ∷ 4 ∷ 5 ∷ []) ∷ (10 ∷ 11 ∷ 12 ∷ 13 ∷ []) ∷ (8 ∷ 9 ∷ 14 ∷ 15 ∷ []) ∷ []
 
+-- the place among them of the one that belongs to x⁵
 unfoldable pub setPlace : ℕ → ℕ
 setPlace norm = cond (eqb norm 0) 0 (cond (eqb norm 1) 1 (cond (eqb norm 6) 2 3))
 

@@ -15,10 +15,13 @@ module _ (q u : ℕ) (message output : List ℕ) where
   pub encode-refused : {why : Refusal} → Refuses (encodeChecks q u message output) why
       → (Refused why ≡ encodeAnswer q u message output) × (output ≡ encodeOutput q u message output)
   unfolding encodeAnswer encodeOutput
-  encode-refused r = (sym (refused Refused Done r), sym (refused (λ why. output) (rowNumbers q u message ++ drop (pointCount q) output) r))
+  encode-refused r =
+      (sym (refused Refused Done r), sym (refused (λ why. output) (rowNumbers q u message ++ drop (pointCount q) output) r))
 
   -- otherwise the row is written
   pub encode-done : Passes (encodeChecks q u message output)
-      → (Done ≡ encodeAnswer q u message output) × (rowNumbers q u message ++ drop (pointCount q) output ≡ encodeOutput q u message output)
+      → (Done ≡ encodeAnswer q u message output) ×
+      (rowNumbers q u message ++ drop (pointCount q) output ≡ encodeOutput q u message output)
   unfolding encodeAnswer encodeOutput
-  encode-done p = (sym (passed Refused Done p), sym (passed (λ why. output) (rowNumbers q u message ++ drop (pointCount q) output) p))
+  encode-done p =
+      (sym (passed Refused Done p), sym (passed (λ why. output) (rowNumbers q u message ++ drop (pointCount q) output) p))

@@ -66,17 +66,26 @@ horner-last products coefficients h q a α k e held =
     rw one (held i (omega arith) ∙ ap (number q) (part-last (laws-of q k) α (symbol q a) i))
 
 -- one more
-pub horner-next : (products coefficients : List ℕ) (i value : ℕ) → 0 < i → i < length coefficients → IsPart products coefficients i value
+pub horner-next : (products coefficients : List ℕ) (i value : ℕ) → 0 < i → i < length coefficients
+    → IsPart products coefficients i value
     → IsPart products coefficients (i - 1) (bitXor (getD products (value % 16) 0) (getD coefficients (i - 1) 0))
 horner-next products coefficients i value h l known q a α k e held =
     let tail = part (symbols q) q α (symbol q a) i (length coefficients - i) in
     let up : suc (i - 1) ≡ i = omega arith in
     let more : suc (length coefficients - i) ≡ length coefficients - (i - 1) = omega arith in
     let next = part-next (laws-of q k) α (symbol q a) (i - 1) (length coefficients - i) in
-    rw (e, known q a α k e held, row-number q k a tail, held (i - 1) (omega arith), number-of-sum q k (symbols q ._⊗_ (symbol q a) tail) (α (i - 1)))
+    rw (
+      e,
+      known q a α k e held,
+      row-number q k a tail,
+      held (i - 1) (omega arith),
+      number-of-sum q k
+          (symbols q ._⊗_ (symbol q a) tail) (α (i - 1)),
+    )
     (ap (number q) (rw (up, more) at next))
 
 -- all
-pub horner-all : (products coefficients : List ℕ) (value : ℕ) → IsPart products coefficients 0 value → IsValue products coefficients value
+pub horner-all : (products coefficients : List ℕ) (value : ℕ) → IsPart products coefficients 0 value
+    → IsValue products coefficients value
 horner-all products coefficients value known q a α k e held =
     (rw sub-zero at (known q a α k e held)) ∙ ap (number q) (part-whole (laws-of q k) α (symbol q a) (length coefficients))

@@ -74,13 +74,15 @@ module _ (q u : ℕ) (message : List ℕ) (k : Known q) where
   function = messageFunction (symbols q) q u (map (symbol q) message)
 
   -- a message's byte is the number of its symbol
-  byte : (n : ℕ) → anyBeyond q message ≡ false → n < length message → getD message n 0 ≡ number q (getD (map (symbol q) message) n (symbols q .𝟘))
+  byte : (n : ℕ) → anyBeyond q message ≡ false → n < length message
+      → getD message n 0 ≡ number q (getD (map (symbol q) message) n (symbols q .𝟘))
   byte n symbolic h =
       sym (number-of-below q (getD message n 0) k (below-all q message symbolic n h))
       ∙ ap (number q) (sym (List·getD-map (symbol q) message n 0) ∙ ap (getD (map (symbol q) message) n) (symbol-zero q))
 
   -- the message's bytes in their places are the numbers of its function's coefficients
-  pub spread-function : anyBeyond q message ≡ false → length message ≡ dimension q u → (places : List ℕ) → IsSpread q (u + 1) message places
+  pub spread-function : anyBeyond q message ≡ false → length message ≡ dimension q u → (places : List ℕ)
+      → IsSpread q (u + 1) message places
       → HoldsFunction q function places
   spread-function symbolic long places held j i hj hi = held j i hj hi ∙ ⊎-elim above within (lt-or-ge u (weight q j i))
     where
@@ -103,7 +105,8 @@ module _ (q u : ℕ) (message : List ℕ) (k : Known q) where
       let P = pointAt (symbols q) q (a * q + b) in
       let below = rw (count-is q) at small in
       ap (number q)
-      (valueIn-cong (symbols q) q q (P .y) (λ j h. narrow (laws-of q k) u (map (symbol q) message) j (symbol q a) (known-positive q k) below)
+      (valueIn-cong (symbols q) q q (P .y)
+      (λ j h. narrow (laws-of q k) u (map (symbol q) message) j (symbol q a) (known-positive q k) below)
       ∙ two-stages (laws-of q k) (q * q) function (symbol q a) (P .y)
       ∙ ap (λ x. valueAt (symbols q) q (q * q) function x (P .y)) (sym (points-arranged q k .abscissa a b ha hb))
       ∙ function-value (laws-of q k) u (map (symbol q) message) below P)
@@ -113,4 +116,5 @@ module _ (q u : ℕ) (message : List ℕ) (k : Known q) where
   unfolding rowNumbers rowNumber
   row-numbers =
       ap (map (number q)) (row-tab (points-arranged q k) u (map (symbol q) message))
-      ∙ map-tab (number q) (pointCount q) (λ m. messageAt (symbols q) q (nongaps q u) (map (symbol q) message) (pointAt (symbols q) q m))
+      ∙ map-tab (number q) (pointCount q)
+      (λ m. messageAt (symbols q) q (nongaps q u) (map (symbol q) message) (pointAt (symbols q) q m))

@@ -31,7 +31,8 @@ module _ (q : ℕ) (k : Known q) (products : List ℕ) (value : ℕ) where
       is q a α k e (λ i h. held i (rw long at h)) ∙ ap (λ m. number q (valueIn (symbols q) q m α (symbol q a))) long
 
   -- the places of y^j give the value at x of the polynomial that stands there
-  pub column-value : (f : Fn (symbols q) q) (places : List ℕ) (x j n : ℕ) → j < q → n ≤ 16 → length places ≡ 64 → HoldsFunction q f places
+  pub column-value : (f : Fn (symbols q) q) (places : List ℕ) (x j n : ℕ) → j < q → n ≤ 16 → length places ≡ 64
+      → HoldsFunction q f places
       → products ≡ productRow q x → IsValue products (take n (drop (j * 16) places)) value → value ≡ columnNumber q f n x j
   unfolding columnNumber
   column-value f places x j n hj hn long held e is =
@@ -40,7 +41,8 @@ module _ (q : ℕ) (k : Known q) (products : List ℕ) (value : ℕ) where
 
   -- the values at x give the value at y number b above x
   pub fibre-value : (v : ℕ → Sym q) (values : List ℕ) (x b : ℕ) → x < q * q → b < q → length values ≡ 4 → Holds q v q values
-      → products ≡ productRow q (getD (ordinatesAbove q x) b 0) → IsValue products (take q values) value → value ≡ fibreNumber q v x b
+      → products ≡ productRow q (getD (ordinatesAbove q x) b 0) → IsValue products (take q values) value
+      → value ≡ fibreNumber q v x b
   unfolding fibreNumber
   fibre-value v values x b hx hb long held e is =
       let y : symbol q (getD (ordinatesAbove q x) b 0) ≡ pointAt (symbols q) q (x * q + b) .y

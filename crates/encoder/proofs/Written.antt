@@ -17,7 +17,8 @@ use Rattle.encoder.specs.Stages.{Holds, columnNumber, fibreNumber}
 use Rattle.encoder.proofs.RowNumbers.{rowNumber, function, stages, row-numbers}
 
 -- the values of a column are the numbers of symbols
-pub column-holds : (q : ℕ) → Known q → (f : Fn (symbols q) q) (width x : ℕ) (values : List ℕ) → values ≡ put (replicate 4 0) 0 q (columnNumber q f width x)
+pub column-holds : (q : ℕ) → Known q → (f : Fn (symbols q) q) (width x : ℕ) (values : List ℕ)
+    → values ≡ put (replicate 4 0) 0 q (columnNumber q f width x)
     → Holds q (λ j. valueIn (symbols q) q width (f j) (symbol q x)) q values
 unfolding columnNumber
 column-holds q k f width x values e i h =
@@ -33,12 +34,14 @@ width-small q u k h = omega (arith, div-lt-iff-lt-mul (known-positive q k) .1 h,
 module _ (q u : ℕ) (message : List ℕ) (k : Known q) where
   -- one column more
   pub next-column : u < pointCount q → (row : List ℕ) (a : ℕ) → a < q * q
-      → put (put row 0 (a * q) (rowNumber q u message)) (a * q) q (fibreNumber q (λ j. valueIn (symbols q) q (u / q + 1) (function q u message k j) (symbol q a)) a)
+      → put (put row 0 (a * q) (rowNumber q u message)) (a * q) q
+      (fibreNumber q (λ j. valueIn (symbols q) q (u / q + 1) (function q u message k j) (symbol q a)) a)
       ≡ put row 0 ((a + 1) * q) (rowNumber q u message)
   next-column small row a ha =
       let start : a * q ≡ 0 + a * q = omega arith in
       let end : a * q + q ≡ (a + 1) * q = rw (add-mul, one-mul) in
-      put-same (put row 0 (a * q) (rowNumber q u message)) (a * q) q _ (λ b. rowNumber q u message (a * q + b)) (λ b hb. stages q u message k small a b ha hb)
+      put-same (put row 0 (a * q) (rowNumber q u message)) (a * q) q _ (λ b. rowNumber q u message (a * q + b))
+      (λ b hb. stages q u message k small a b ha hb)
       ∙ ap (λ n. put (put row 0 (a * q) (rowNumber q u message)) n q (λ b. rowNumber q u message (a * q + b))) start
       ∙ put-parts row 0 (a * q) q (rowNumber q u message)
       ∙ ap (λ n. put row 0 n (rowNumber q u message)) end
@@ -48,4 +51,5 @@ module _ (q u : ℕ) (message : List ℕ) (k : Known q) where
       → put row 0 (q * q * q) (rowNumber q u message) ≡ rowNumbers q u message ++ drop (pointCount q) row
   unfolding pointCount
   all-columns row room =
-      put-front 0 row (q * q * q) (rowNumber q u message) room ∙ ap (λ l. l ++ drop (pointCount q) row) (sym (row-numbers q u message k))
+      put-front 0 row (q * q * q) (rowNumber q u message) room
+      ∙ ap (λ l. l ++ drop (pointCount q) row) (sym (row-numbers q u message k))

@@ -15,11 +15,12 @@ use Rattle.symbols.specs.Rule.{Known, Sym, number, symbol, anyBeyond}
 use Rattle.symbols.proofs.FieldLaws.{laws-of}
 use Rattle.symbols.proofs.Bytes.{number-of-below}
 
--- neither of two tests is met
+-- where neither of two tests is met, the first is not
 neither-left : (a b : Bool) → a || b ≡ false → a ≡ false
 neither-left true b e = e
 neither-left false b e = refl
 
+-- nor the second
 neither-right : (a b : Bool) → a || b ≡ false → b ≡ false
 neither-right true b e = absurd (false-is-not-true e)
   where
@@ -33,7 +34,8 @@ unfolding anyBeyond
 beyond-here q l i h b = rw (drop-cons l i 0 h, le-leb (q * q) (getD l i 0) b)
 
 -- from a place with a symbol on there is one if there is one after it
-pub beyond-next : (q : ℕ) (l : List ℕ) (i : ℕ) → i < length l → getD l i 0 < q * q → anyBeyond q (drop i l) ≡ anyBeyond q (drop (i + 1) l)
+pub beyond-next : (q : ℕ) (l : List ℕ) (i : ℕ) → i < length l → getD l i 0 < q * q
+    → anyBeyond q (drop i l) ≡ anyBeyond q (drop (i + 1) l)
 unfolding anyBeyond
 beyond-next q l i h b = rw (add-one, drop-cons l i 0 h, lt-leb (q * q) (getD l i 0) b)
 
@@ -67,4 +69,5 @@ numbers-below q k (a ∷ l) = rw (lt-leb (q * q) (number q a) (laws-of q k .numb
 -- the symbols of symbols' numbers are the symbols
 pub symbols-of-numbers : (q : ℕ) → Known q → (l : List (Sym q)) → map (symbol q) (map (number q) l) ≡ l
 symbols-of-numbers q k [] = refl
-symbols-of-numbers q k (a ∷ l) = ap₂ (λ (x : Sym q) (xs : List (Sym q)). x ∷ xs) (laws-of q k .symbol-number a) (symbols-of-numbers q k l)
+symbols-of-numbers q k (a ∷ l) =
+    ap₂ (λ (x : Sym q) (xs : List (Sym q)). x ∷ xs) (laws-of q k .symbol-number a) (symbols-of-numbers q k l)

@@ -22,7 +22,8 @@ computing = tt
 pub product-in : (q x y : ℕ) → x < size q → y < size q → getD (productTable q) (x * size q + y) 0 ≡ productNumber q x y
 unfolding productTable
 product-in q x y hx hy =
-    getD-join (size q) (size q) (λ a. tab (size q) (productNumber q a)) 0 (λ a. length-tab (size q) (productNumber q a)) x y hx hy
+    getD-join (size q) (size q) (λ a. tab (size q) (productNumber q a)) 0
+    (λ a. length-tab (size q) (productNumber q a)) x y hx hy
     ∙ getD-tab (size q) (productNumber q x) y 0 hy
 
 -- a factor's remainder gives the same products
@@ -49,17 +50,23 @@ products-after q a b h = ap (λ y. getD (productTable q) (a % size q * size q + 
 -- so that part makes the row of a
 pub row-of-table : (q a : ℕ) → put (replicate 16 0) 0 (size q) (after (productTable q) (a % size q * size q)) ≡ productRow q a
 unfolding productRow
-row-of-table q a = put-same (replicate 16 0) 0 (size q) (after (productTable q) (a % size q * size q)) (productNumber q a) (products-after q a)
+row-of-table q a =
+    put-same (replicate 16 0) 0 (size q) (after (productTable q) (a % size q * size q)) (productNumber q a) (products-after q a)
 
 -- the row of a holds at each place below q² the product of a by that place's symbol
-pub row-at : (q a b : ℕ) → size q ≤ 16 → b < size q → getD (productRow q a) b 0 ≡ number q (symbols q ._⊗_ (symbol q a) (symbol q b))
+pub row-at : (q a b : ℕ) → size q ≤ 16 → b < size q
+    → getD (productRow q a) b 0 ≡ number q (symbols q ._⊗_ (symbol q a) (symbol q b))
 unfolding productRow productNumber
-row-at q a b fit h = ap (λ k. getD (productRow q a) k 0) (sym (zero-add b)) ∙ put-in (replicate 16 0) 0 (size q) (productNumber q a) b 0 h (rw zero-add fit)
+row-at q a b fit h =
+    ap (λ k. getD (productRow q a) k 0) (sym (zero-add b))
+    ∙ put-in (replicate 16 0) 0 (size q) (productNumber q a) b 0 h (rw zero-add fit)
 
 -- the same at a symbol's number, taken as a loop takes a byte
-pub row-number : (q : ℕ) → Known q → (a : ℕ) (s : Sym q) → getD (productRow q a) (number q s % 16) 0 ≡ number q (symbols q ._⊗_ (symbol q a) s)
+pub row-number : (q : ℕ) → Known q → (a : ℕ) (s : Sym q)
+    → getD (productRow q a) (number q s % 16) 0 ≡ number q (symbols q ._⊗_ (symbol q a) s)
 row-number q k a s =
     let small : number q s < size q = rw (size-known q k) (laws-of q k .number-below s) in
     let fits : size q ≤ 16 = rw (size-known q k) (square-small q k) in
     let low : number q s < 16 = omega arith in
-    rw (mod-eq-of-lt low) (row-at q a (number q s) fits small ∙ ap (λ t. number q (symbols q ._⊗_ (symbol q a) t)) (laws-of q k .symbol-number s))
+    rw (mod-eq-of-lt low) (row-at q a (number q s) fits small
+    ∙ ap (λ t. number q (symbols q ._⊗_ (symbol q a) t)) (laws-of q k .symbol-number s))

@@ -7,10 +7,11 @@ use lib.ListN.{getD, replicate}
 use Rattle.lists.specs.Tables.{tab, join, put}
 use Rattle.symbols.specs.Rule.{size, symbols, number, symbol}
 
--- the number of the product of two numbers' symbols, and of the inverse of one's
+-- the number of the product of two numbers' symbols
 unfoldable pub productNumber : ℕ → ℕ → ℕ → ℕ
 productNumber q a b = number q (symbols q ._⊗_ (symbol q a) (symbol q b))
 
+-- the number of the inverse of a number's symbol
 unfoldable pub inverseNumber : ℕ → ℕ → ℕ
 inverseNumber q a = number q (symbols q .inverse (symbol q a))
 

@@ -23,7 +23,11 @@ products-of-requires : tie.Need-products-of-requires Inv-loop μ-loop
 products-of-requires c κs = c .pre
 
 loop-holds : tie.Need-loop-holds Inv-loop μ-loop
-loop-holds c = (omega arith, sym (ap (number _) (power-zero (symbols _) (symbol _ (c .before .args .x))) ∙ laws-of _ (c .before .pre) .number-one))
+loop-holds c = (
+  omega arith,
+  sym (ap (number _) (power-zero (symbols _) (symbol _ (c .before .args .x)))
+      ∙ laws-of _ (c .before .pre) .number-one),
+)
 
 add-loop : tie.Need-add-loop Inv-loop μ-loop
 add-loop c = omega (arith, known-high _ (c .before .before .pre))
@@ -49,7 +53,8 @@ loop-again c =
       search needs,
       rw (at .before .products-of .ensures, at .loop .inv .1)
           (row-number q (start .pre) (start .args .x) (power (symbols q) x (at .loop .i))
-          ∙ ap (number q) (sym (power-suc (symbols q) x (at .loop .i)) ∙ ap (power (symbols q) x) (sym (add-one (at .loop .i))))),
+          ∙ ap (number q) (sym (power-suc (symbols q) x (at .loop .i))
+          ∙ ap (power (symbols q) x) (sym (add-one (at .loop .i))))),
     )
 
 returns : tie.Need-returns Inv-loop μ-loop
@@ -57,7 +62,8 @@ returns c =
     let at = c .before in
     let start = at .before .before in
     let end : at .loop .i ≡ start .args .q + 1 = omega arith in
-    at .loop .inv .1 ∙ ap (λ n. number (start .args .q) (power (symbols (start .args .q)) (symbol (start .args .q) (start .args .x)) n)) end
+    at .loop .inv .1 ∙ ap
+    (λ n. number (start .args .q) (power (symbols (start .args .q)) (symbol (start .args .q) (start .args .x)) n)) end
 
 pub norm-spec : {M : Type 1} → statement M
 norm-spec =

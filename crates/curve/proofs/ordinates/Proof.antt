@@ -30,7 +30,8 @@ array-copy-out-result-2 c = search needs
 
 returns : tie.Need-returns
 unfolding ordinatesAbove ordinateSet sets4
-returns c = rw (eq-eqb _ _ (c .before .before .if1 .taken), c .before .set-place .ensures, c .before .before .before .norm .ensures)
+returns c =
+    rw (eq-eqb _ _ (c .before .before .if1 .taken), c .before .set-place .ensures, c .before .before .before .norm .ensures)
 
 returns-2 : tie.Need-returns-2
 unfolding ordinatesAbove ordinateSet sets2

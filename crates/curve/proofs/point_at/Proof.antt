@@ -16,7 +16,12 @@ div-x c = known-positive _ (c .before .before .pre)
 cast-x : tie.Need-cast-x
 cast-x c =
     let start = c .before .before in
-    omega (arith, column-below _ (start .args .m) (start .pre) (rw (c .before .point-count .ensures) at (c .if1 .taken)), square-small _ (start .pre))
+    omega (
+      arith,
+      column-below _ (start .args .m) (start .pre)
+          (rw (c .before .point-count .ensures) at (c .if1 .taken)),
+      square-small _ (start .pre),
+    )
 
 ordinates-requires : tie.Need-ordinates-requires
 ordinates-requires c κs = search needs
@@ -32,13 +37,16 @@ array-read-t12 c =
 returns : tie.Need-returns
 returns c =
     let start = c .before .before .before in
-    let at = point-in (start .args .q) (start .args .m) (start .pre) (rw (c .before .before .point-count .ensures) at (c .before .if1 .taken)) in
+    let at =
+    point-in (start .args .q) (start .args .m) (start .pre)
+    (rw (c .before .before .point-count .ensures) at (c .before .if1 .taken)) in
     rw (c .ordinates .ensures) (λ i. record { x = at .0 i; y = at .1 i })
 
 returns-2 : tie.Need-returns-2
 returns-2 c =
     let start = c .before .before in
-    let at = point-past (start .args .q) (start .args .m) (start .pre) (rw (c .before .point-count .ensures) at (c .if1 .left)) in
+    let at =
+    point-past (start .args .q) (start .args .m) (start .pre) (rw (c .before .point-count .ensures) at (c .if1 .left)) in
     λ i. record { x = at .0 i; y = at .1 i }
 
 pub point-at-spec : {M : Type 1} → statement M

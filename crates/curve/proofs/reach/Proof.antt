@@ -22,7 +22,9 @@ returns c = rw (c .before .point-count .ensures)
 
 returns-2 : tie.Need-returns-2
 unfolding reach
-returns-2 c = let e : pointCount (c .before .before .args .q) - c .before .before .args .u ≡ 0 = omega (arith, c .before .point-count .ensures) in rw e
+returns-2 c =
+    let e : pointCount (c .before .before .args .q) - c .before .before .args .u ≡ 0 = omega
+    (arith, c .before .point-count .ensures) in rw e
 
 pub reach-spec : {M : Type 1} → statement M
 reach-spec = tie.close (tie.spec point-count-requires sub-result sub-result-2 returns returns-2)

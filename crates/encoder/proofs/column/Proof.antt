@@ -68,7 +68,8 @@ loop-again c =
       search needs,
       λ f held. rw (at .loop .inv .1 f held)
           (put-next (replicate 4 0) j (columnNumber q f width (start .args .x)) (c .value-in .result)
-          (column-value q (start .pre .0) (at .before .products-of .result) (c .value-in .result) f (now (start .args .places)) (start .args .x) j (j * 16 + width - j * 16)
+          (column-value q (start .pre .0) (at .before .products-of .result) (c .value-in .result) f (now (start .args .places))
+          (start .args .x) j (j * 16 + width - j * 16)
           (omega arith) (omega arith) (start .pre .3) held (at .before .products-of .ensures) (c .value-in .ensures)
           ∙ ap (λ m. columnNumber q f m (start .args .x) j) n)),
     )
@@ -76,8 +77,9 @@ loop-again c =
 returns : tie.Need-returns Inv-loop μ-loop
 returns c =
     let at = c .before in
-    let end : at .loop .j ≡ at .before .before .before .args .q = omega arith in
-    λ f held. at .loop .inv .1 f held ∙ ap (λ n. put (replicate 4 0) 0 n (columnNumber (at .before .before .before .args .q) f (at .before .before .before .args .width) (at .before .before .before .args .x))) end
+    let args = at .before .before .before .args in
+    let end : at .loop .j ≡ args .q = omega arith in
+    λ f held. at .loop .inv .1 f held ∙ ap (λ n. put (replicate 4 0) 0 n (columnNumber (args .q) f (args .width) (args .x))) end
 
 pub column-spec : {M : Type 1} → statement M
 column-spec =

@@ -20,7 +20,8 @@ use Rattle.encoder.proofs.encode.Tie as tie
 known : (c : tie.Else1) → isKnown (c .before .before .before .before .args .q) ≡ true
 known c = sym (c .before .is-known .ensures) ∙ not-false _ (c .if1 .left)
 
-code : (c : tie.Else2) → let start = c .before .before .before .before .before .before in isCode (start .args .q) (start .args .u) ≡ true
+code : (c : tie.Else2) → let start = c .before .before .before .before .before .before in
+    isCode (start .args .q) (start .args .u) ≡ true
 code c = sym (c .before .is-code .ensures) ∙ not-false _ (c .if2 .left)
 
 long : (c : tie.Else3) → let start = c .before .before .before .before .before .before .before .before in
@@ -31,7 +32,8 @@ symbolic : (c : tie.Else4) → let start = c .before .before .before .before .be
     anyBeyond (start .args .q) (now (start .args .message)) ≡ false
 symbolic c = not-true _ (sym (c .before .all-symbols .ensures) ∙ not-false _ (c .if4 .left))
 
-room : (c : tie.Else5) → let start = c .before .before .before .before .before .before .before .before .before .before .before .before in
+room : (c : tie.Else5)
+    → let start = c .before .before .before .before .before .before .before .before .before .before .before .before in
     pointCount (start .args .q) ≤ length (now (start .args .output))
 room c = rw (c .before .point-count .ensures) at (c .if5 .left)
 
@@ -47,7 +49,9 @@ is-code-requires c κs = test-known _ (known c)
 
 returns-2 : tie.Need-returns-2
 unfolding encodeChecks
-returns-2 c = encode-refused _ _ _ _ (later (ap not (known (c .before .before))) (here (rw (c .before .is-code .ensures) at (c .if2 .taken))))
+returns-2 c =
+    encode-refused _ _ _ _
+    (later (ap not (known (c .before .before))) (here (rw (c .before .is-code .ensures) at (c .if2 .taken))))
 
 dimension-requires : tie.Need-dimension-requires
 dimension-requires c κs = (test-known _ (known (c .before .before)), code-below _ _ (code c))
@@ -71,7 +75,8 @@ returns-4 c =
     encode-refused _ _ _ _
     (later (ap not (known (coded .before .before)))
     (later (ap not (code coded))
-    (later (ap not (eq-eqb _ _ (long sized))) (here (not-false _ (sym (c .before .all-symbols .ensures) ∙ not-true _ (c .if4 .taken)))))))
+    (later (ap not (eq-eqb _ _ (long sized))) (here (not-false _ (sym (c .before .all-symbols .ensures)
+    ∙ not-true _ (c .if4 .taken)))))))
 
 point-count-requires : tie.Need-point-count-requires
 point-count-requires c κs = test-known _ (known (c .before .before .before .before .before .before))

@@ -34,7 +34,13 @@ div-width c = known-positive _ (c .before .before .before .pre .known)
 add-width : tie.Need-add-width Inv-loop μ-loop
 add-width c =
     let start = c .before .before .before in
-    omega (arith, div-le-self (start .args .u) (start .args .q), code-below _ _ (start .pre .code), count-small _ (start .pre .known))
+    omega (
+      arith,
+      div-le-self (start .args .u) (start .args .q),
+      code-below _ _ (start .pre .code),
+      count-small _
+          (start .pre .known),
+    )
 
 loop-holds : tie.Need-loop-holds Inv-loop μ-loop
 loop-holds c = (omega arith, refl, rw zero-mul (sym (put-none _ _ _)))
@@ -50,8 +56,16 @@ slice-aggregate-column c = search needs
 
 column-requires : tie.Need-column-requires Inv-loop μ-loop
 column-requires c κs =
-    let start = c .before .before .before .before .before .before in
-    (start .pre .known, omega arith, omega (arith, width-small (start .args .q) (start .args .u) (start .pre .known) (code-below _ _ (start .pre .code))), search needs)
+    let start = c .before .before .before .before .before .before in (
+      start .pre .known,
+      omega arith,
+      omega (
+        arith,
+        width-small (start .args .q) (start .args .u) (start .pre .known)
+            (code-below _ _ (start .pre .code)),
+      ),
+      search needs,
+    )
 
 slice-aggregate-fill-fibre : tie.Need-slice-aggregate-fill-fibre Inv-loop μ-loop
 slice-aggregate-fill-fibre c = search needs
@@ -80,7 +94,9 @@ loop-again c =
     let k = start .pre .known in
     let small = code-below q u (start .pre .code) in
     let f = function q u message k in
-    let places = spread-function q u message k (start .pre .symbolic) (start .pre .long) (at .before .spread .result) (at .before .spread .ensures) in
+    let places =
+    spread-function q u message k (start .pre .symbolic) (start .pre .long) (at .before .spread .result)
+    (at .before .spread .ensures) in
     let values = c .before .before .before .before .before .column in
     let held = column-holds q k f (u / q + 1) (at .loop .x) (values .result) (values .ensures f places) in (
       omega arith,
@@ -99,7 +115,8 @@ returns c =
     let q = start .args .q in
     let message = now (start .args .message) in
     let end : at .loop .x ≡ q * q = omega arith in
-    at .loop .inv .2 ∙ (rw end (all-columns q (start .args .u) message (start .pre .known) (now (start .args .row)) (start .pre .room)))
+    at .loop .inv .2 ∙ (rw end
+    (all-columns q (start .args .u) message (start .pre .known) (now (start .args .row)) (start .pre .room)))
 
 pub encode-row-spec : {M : Type 1} → statement M
 encode-row-spec =

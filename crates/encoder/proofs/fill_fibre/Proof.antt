@@ -30,7 +30,13 @@ ordinates-requires : tie.Need-ordinates-requires Inv-loop μ-loop
 ordinates-requires c κs = c .before .before .pre .0
 
 mul-start : tie.Need-mul-start Inv-loop μ-loop
-mul-start c = omega (arith, fibre-within _ (c .before .before .before .args .x) (c .before .before .before .pre .1), count-small _ (c .before .before .before .pre .0))
+mul-start c =
+    omega (
+      arith,
+      fibre-within _ (c .before .before .before .args .x) (c .before .before .before .pre .1),
+      count-small _
+          (c .before .before .before .pre .0),
+    )
 
 loop-holds : tie.Need-loop-holds Inv-loop μ-loop
 loop-holds c = (omega arith, refl, λ v held. sym (put-none _ _ _))
@@ -42,10 +48,13 @@ products-of-requires : tie.Need-products-of-requires Inv-loop μ-loop
 products-of-requires c κs = c .before .before .before .before .before .pre .0
 
 slice-aggregate-value-in : tie.Need-slice-aggregate-value-in Inv-loop μ-loop
-slice-aggregate-value-in c = simp length-take (omega (arith, known-high _ (c .before .before .before .before .before .before .before .before .pre .0)))
+slice-aggregate-value-in c =
+    simp length-take (omega (arith, known-high _ (c .before .before .before .before .before .before .before .before .pre .0)))
 
 value-in-requires : tie.Need-value-in-requires Inv-loop μ-loop
-value-in-requires c κs = simp length-take (omega (arith, known-positive _ (c .before .before .before .before .before .before .before .before .pre .0)))
+value-in-requires c κs =
+    simp length-take (omega
+    (arith, known-positive _ (c .before .before .before .before .before .before .before .before .pre .0)))
 
 add-row : tie.Need-add-row Inv-loop μ-loop
 add-row c =
@@ -76,7 +85,8 @@ loop-again c =
           let e = c .before .before .before .products-of .ensures ∙ ap (λ l. productRow q (getD l b 0)) (above .ensures) in
           rw (
             at .loop .inv .2 v held,
-            fibre-value q (start .pre .0) (c .before .before .before .products-of .result) (c .value-in .result) v (now (start .args .values)) (start .args .x) b
+            fibre-value q (start .pre .0) (c .before .before .before .products-of .result) (c .value-in .result) v
+                (now (start .args .values)) (start .args .x) b
                 (start .pre .1) (omega arith) (start .pre .2) held e (c .value-in .ensures),
           )
           (put-more (now (start .args .row)) (start .args .x * q) b (fibreNumber q v (start .args .x))),
@@ -90,7 +100,9 @@ returns c =
     let at = c .before in
     let start = at .before .before .before .before in
     let end : at .loop .b ≡ start .args .q = omega arith in
-    λ v held. at .loop .inv .2 v held ∙ ap (λ n. put (now (start .args .row)) (start .args .x * start .args .q) n (fibreNumber (start .args .q) v (start .args .x))) end
+    λ v held. at .loop .inv .2 v held
+    ∙ ap (λ n. put (now (start .args .row)) (start .args .x * start .args .q) n
+    (fibreNumber (start .args .q) v (start .args .x))) end
 
 pub fill-fibre-spec : {M : Type 1} → statement M
 fill-fibre-spec =

@@ -1,4 +1,5 @@
--- `encoder::spread` meets its contract. The loop's invariant: the bytes for the weights passed stand in their places. Assumes nothing.
+-- `encoder::spread` meets its contract. The loop's invariant: the bytes for the weights passed stand in their places.
+-- Assumes nothing.
 use mathlib.Core.Path.{_≡_, refl, sym, ap, _∙_, subst}
 use mathlib.Core.Bool.{not}
 use Prim.Native.Nat.{_+_, _-_, _*_, _≤_, _<_}
@@ -38,18 +39,25 @@ enum-known-monomial c = search needs
 -- the powers that a turn is told are those of its weight
 here : (c : tie.After-shared-slice-known2 Inv-loop μ-loop)
     → let at = c .before .before .before .before .before .before in
-    Found (at .before .before .args .q) (at .loop .s) (c .before .before .monomial .given .0 .0) (c .before .before .monomial .given .0 .1 .0)
+    Found (at .before .before .args .q) (at .loop .s) (c .before .before .monomial .given .0 .0)
+    (c .before .before .monomial .given .0 .1 .0)
 here c =
     let at = c .before .before .before .before .before .before in
-    found (at .before .before .args .q) (at .loop .s) _ _ (sym (c .before .before .before .before .monomial-of .ensures) ∙ c .before .before .monomial .given .1)
+    found (at .before .before .args .q) (at .loop .s) _ _ (sym (c .before .before .before .before .monomial-of .ensures)
+    ∙ c .before .before .monomial .given .1)
 
 -- they are within the places
-fits : (c : tie.After-shared-slice-known2 Inv-loop μ-loop) → c .before .before .monomial .given .0 .1 .0 * 16 + c .before .before .monomial .given .0 .0 < 64
+fits : (c : tie.After-shared-slice-known2 Inv-loop μ-loop)
+    → c .before .before .monomial .given .0 .1 .0 * 16 + c .before .before .monomial .given .0 .0 < 64
 fits c =
     let at = c .before .before .before .before .before .before in
     let start = at .before .before in
     let found = here c in
-    omega (arith, powers-fit (start .args .q) (now (start .args .message)) (at .loop .s) (start .pre .0) (omega arith) (found .nongap))
+    omega (
+      arith,
+      powers-fit (start .args .q) (now (start .args .message)) (at .loop .s) (start .pre .0) (omega arith)
+          (found .nongap),
+    )
 
 shared-slice-read-places : tie.Need-shared-slice-read-places Inv-loop μ-loop
 unfolding nongap
@@ -57,7 +65,13 @@ shared-slice-read-places c =
     let at = c .before .before .before .before .before .before in
     let start = at .before .before in
     let found = here c in
-    omega (arith, rank-below (start .args .q) (start .args .u) (at .loop .s) (ap not (found .nongap)) (omega arith), at .loop .inv .1, start .pre .2)
+    omega (
+      arith,
+      rank-below (start .args .q) (start .args .u) (at .loop .s) (ap not (found .nongap))
+          (omega arith),
+      at .loop .inv .1,
+      start .pre .2,
+    )
 
 mul-places : tie.Need-mul-places Inv-loop μ-loop
 mul-places c = omega (arith, fits c)
@@ -88,7 +102,8 @@ loop-again c =
       (rw (at .loop .inv .1) (sym (rank-nongap q (at .loop .s) (ap not (found .nongap))))),
       simp length-set (at .loop .inv .2),
       rw (found .power-x, found .power-y, at .loop .inv .1)
-          (spread-next q (now (start .args .message)) (at .loop .s) (start .pre .0) (omega arith) (found .nongap) (at .loop .places) (at .loop .inv .2) (at .loop .inv .3)),
+          (spread-next q (now (start .args .message)) (at .loop .s) (start .pre .0) (omega arith) (found .nongap)
+          (at .loop .places) (at .loop .inv .2) (at .loop .inv .3)),
     )
 
 enum-told : tie.Need-enum-told Inv-loop μ-loop
@@ -113,7 +128,8 @@ loop-again-2 c =
 returns : tie.Need-returns Inv-loop μ-loop
 returns c =
     let end : c .before .loop .s ≡ c .before .before .before .args .u + 1 = omega arith in
-    subst (λ s. IsSpread (c .before .before .before .args .q) s (now (c .before .before .before .args .message)) (c .before .loop .places)) end (c .before .loop .inv .3)
+    subst (λ s. IsSpread (c .before .before .before .args .q) s (now (c .before .before .before .args .message))
+    (c .before .loop .places)) end (c .before .loop .inv .3)
 
 pub spread-spec : {M : Type 1} → statement M
 spread-spec =

@@ -22,7 +22,8 @@ shared-slice-read-value : tie.Need-shared-slice-read-value Inv-loop μ-loop
 shared-slice-read-value c = search needs
 
 loop-holds : tie.Need-loop-holds Inv-loop μ-loop
-loop-holds c = (search needs, horner-last (now (c .before .args .products)) (now (c .before .args .coefficients)) (c .before .pre))
+loop-holds c =
+    (search needs, horner-last (now (c .before .args .products)) (now (c .before .args .coefficients)) (c .before .pre))
 
 sub-i-2 : tie.Need-sub-i-2 Inv-loop μ-loop
 sub-i-2 c = search needs
@@ -54,7 +55,8 @@ returns c =
     let products = now (at .before .before .args .products) in
     let coefficients = now (at .before .before .args .coefficients) in
     let zero : at .loop .i ≡ 0 = omega arith in
-    horner-all products coefficients (at .loop .value) (subst (λ i. IsPart products coefficients i (at .loop .value)) zero (at .loop .inv .1))
+    horner-all products coefficients (at .loop .value)
+    (subst (λ i. IsPart products coefficients i (at .loop .value)) zero (at .loop .inv .1))
 
 pub value-in-spec : {M : Type 1} → statement M
 value-in-spec =

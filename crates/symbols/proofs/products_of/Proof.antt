@@ -36,7 +36,10 @@ returns c = c .part-of .ensures ∙ (rw (c .before .before .if1 .taken) (row-of-
 
 returns-2 : tie.Need-returns-2
 unfolding computing
-returns-2 c = c .part-of2 .ensures ∙ (rw (known-other _ (c .before .before .before .pre) (c .before .before .if1 .left)) (row-of-table 2 (c .before .before .before .args .a)))
+returns-2 c =
+    c .part-of2 .ensures ∙
+    (rw (known-other _ (c .before .before .before .pre) (c .before .before .if1 .left))
+    (row-of-table 2 (c .before .before .before .args .a)))
 
 pub products-of-spec : {M : Type 1} → statement M
 products-of-spec =
