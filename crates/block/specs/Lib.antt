@@ -1,5 +1,2 @@
 pub mod Layout
 pub mod Verification
-pub mod Inside
-pub mod AsBytes
-pub mod Copy

@@ -1,8 +1,4 @@
 // Blocks: when is a copy a copy?
-mod header; // header.rt: the 8 bytes before the rows
-mod unpacking; // unpacking.rt: two symbols from each byte, and symbols compared
-mod verdict; // verdict.rt: the verdict before the first row and after each
-
 use refusals::Refusal;
 
 // The outcome of one row: state 0 equal, 1 accepted but other message, 2 unreadable; and the count, 0 when unreadable.

@@ -105,3 +105,9 @@ module _ {ℓ ℓ′} {A : Type ℓ} {B : Type ℓ′} where
   pub map-tab : (e : A → B) (n : ℕ) (f : ℕ → A) → map e (tab n f) ≡ tab n (λ k. e (f k))
   unfolding tab
   map-tab e n f = map-from e 0 n f
+
+  -- what a mapped list holds in a place that it has
+  pub getD-map : (e : A → B) (l : List A) (m : ℕ) (d : B) (d′ : A) → m < length l → getD (map e l) m d ≡ e (getD l m d′)
+  getD-map e [] m d d′ h = absurd (not-suc-le-zero h)
+  getD-map e (a ∷ l) zero d d′ h = refl
+  getD-map e (a ∷ l) (suc m) d d′ h = getD-map e l m d d′ (omega arith)

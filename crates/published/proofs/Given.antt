@@ -17,15 +17,9 @@ use Rattle.curve.specs.Points.{Point}
 use Rattle.curve.specs.Codes.{nongaps, dimension}
 use Rattle.curve.specs.Rows.{messageAt}
 use Rattle.curve.specs.Ranks.{rank}
+use Rattle.lists.proofs.Tables.{getD-map}
 use Rattle.curve.proofs.Ranks.{nongaps-at, nongaps-rank, rank-below}
 use Rattle.published.specs.Steps.{messageOf}
-
--- element m of the values of a function on a list
-getD-map {ℓ ℓ′} : {A : Type ℓ} {B : Type ℓ′} (e : A → B) (l : List A) (m : ℕ) (d : B) (d′ : A) → m < length l
-    → getD (map e l) m d ≡ e (getD l m d′)
-getD-map e [] m d d′ h = absurd (omega arith)
-getD-map e (a ∷ l) zero d d′ h = refl
-getD-map e (a ∷ l) (suc m) d d′ h = getD-map e l m d d′ (omega arith)
 
 module _ (𝓢 : Symbols) (q : ℕ) (u : ℕ) where
   open Symbols 𝓢 using (K, 𝟘)

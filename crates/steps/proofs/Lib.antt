@@ -14,6 +14,7 @@ mod ChangeLaws
 mod ReplaceLaws
 pub mod NarrowLaws
 mod StepLaws
+mod VotePlaces
 mod StartBytes
 mod StartRows
 mod StartFirsts

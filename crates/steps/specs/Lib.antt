@@ -3,3 +3,4 @@ pub mod Pairs
 pub mod Stop
 pub mod Step
 pub mod StartArea
+pub mod Votes

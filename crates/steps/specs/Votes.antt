@@ -1,0 +1,20 @@
+-- Where the votes stand in the output. Document 01, "Lent areas": "puts the votes (0 where not yet voted) in the first k places
+-- of the output", a message's symbols being "by rising non-gap".
+-- Assumes nothing.
+use mathlib.Core.Bool.{true, false}
+use mathlib.Core.List.{List}
+use Prim.Native.Nat.{ℕ, _-_}
+use lib.ListN.{length, set}
+use Rattle.lists.specs.Tables.{tab, keep}
+use Rattle.curve.specs.Ranks.{rank}
+use Rattle.published.specs.Start.{startWeight}
+use Rattle.published.specs.Pairing.{isVoted}
+
+-- how many of the steps at weights below n vote
+unfoldable pub votesBelow : ℕ → ℕ → ℕ → ℕ
+votesBelow q u n = length (keep (isVoted q u) (tab n (λ s. s)))
+
+-- the votes with that of the step after `done` steps in its place
+unfoldable pub noted : ℕ → ℕ → ℕ → ℕ → List ℕ → List ℕ
+noted q u done vote votes =
+    elim (isVoted q u (startWeight q - done)) [ true ↦ set votes (rank q (startWeight q - done)) vote | false ↦ votes ]
