@@ -15,6 +15,7 @@ mod ReplaceLaws
 pub mod NarrowLaws
 mod StepLaws
 mod VotePlaces
+mod StopChecks
 mod StartBytes
 mod StartRows
 mod StartFirsts

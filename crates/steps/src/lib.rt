@@ -16,6 +16,7 @@ pub use area::area_size;
 pub use reading::Leading;
 pub use reading::leading_of;
 pub use service::advance;
+pub use service::stop;
 pub use start::begin;
 pub use step::step_count;
 pub use step::take_step;

@@ -1,17 +1,21 @@
 // The stop service: any number of steps on a received row, with the picture and the votes that they leave.
+use crate::Stopped;
+use crate::area;
 use crate::start;
 use crate::step;
 use crate::votes;
+use refusals::Refusal;
 ghost use mathlib.Core.Path.{_≡_};
 ghost use mathlib.Core.List.{List, _++_};
 ghost use Prim.Native.Nat.{ℕ, _+_, _-_, _<_, _≤_};
 ghost use lib.ListN.{length, drop};
-ghost use Rattle.symbols.specs.Rule.{Known};
+ghost use Rattle.symbols.specs.Rule.{Known, symbols};
 ghost use Rattle.curve.specs.Codes.{pointCount, dimension};
 ghost use Rattle.published.specs.Start.{stepCount};
 ghost use Rattle.published.specs.Picture.{areaSize};
+ghost use Rattle.published.specs.Meaning.{Meaning};
 ghost use Rattle.steps.specs.Votes.{votesBelow, noted};
-ghost use Rattle.steps.specs.Stop.{Steppable, pictureAfter, votesAfter};
+ghost use Rattle.steps.specs.Stop.{Steppable, pictureAfter, votesAfter, stopAnswer, stopWork, stopOutput};
 
 // Puts the vote of the step after `done` steps in its place among the votes by rising non-gap, if that step votes. The places
 // from `left` on have their votes; the answer is how many are left then.
@@ -52,4 +56,44 @@ pub fn advance(q: usize, u: usize, steps: usize, row: &[u8], work: &mut [u8], vo
     start::begin(q, row, work);
     start::clear(votes, curve::dimension(q, u));
     take_steps(q, u, steps, work, votes);
+}
+
+// Stopping after any number of steps, for all inputs: refused with 1 to 7, or done with the picture and the votes, which then
+// mean what demand 3 says.
+pub fn stop(
+    q: usize,
+    u: usize,
+    steps: usize,
+    row: &[u8],
+    work: &mut [u8],
+    output: &mut [u8],
+) -> Stopped
+    ensures answer { λ r. ⌜ r ≡ stopAnswer q u steps (now (row .entry)) (now (work .entry)) (now (output .entry)) ⌝ }
+    ensures work { λ r. ⌜ now (work .exit) ≡ stopWork q u steps (now (row .entry)) (now (work .entry)) (now (output .entry)) ⌝ }
+    ensures output { λ r. ⌜ now (output .exit) ≡ stopOutput q u steps (now (row .entry)) (now (work .entry)) (now (output .entry)) ⌝ }
+    ensures meaning { λ r. ⌜ (r ≡ Stopped.Done → Meaning (symbols q) q u (now (row .entry)) steps (now (output .exit)) (now (work .exit))) ⌝ }
+{
+    if !symbols::is_known(q) {
+        return Stopped::Refused(Refusal::UnknownQ);
+    }
+    if !curve::is_code(q, u) {
+        return Stopped::Refused(Refusal::NoCode);
+    }
+    if step::step_count(q) < steps {
+        return Stopped::Refused(Refusal::TooManySteps);
+    }
+    if row.len() != curve::point_count(q) {
+        return Stopped::Refused(Refusal::WrongLength);
+    }
+    if !symbols::all_symbols(q, row) {
+        return Stopped::Refused(Refusal::NoSymbol);
+    }
+    if work.len() < area::area_size(q) {
+        return Stopped::Refused(Refusal::ShortWork);
+    }
+    if output.len() < curve::dimension(q, u) {
+        return Stopped::Refused(Refusal::ShortOutput);
+    }
+    advance(q, u, steps, row, work, output);
+    Stopped::Done
 }
