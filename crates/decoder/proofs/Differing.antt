@@ -15,30 +15,23 @@ use Rattle.decoder.specs.Decoding.{differing}
 unfoldable pub differingFrom : ℕ → List ℕ → List ℕ → ℕ
 differingFrom i a b = differing (drop i a) (drop i b)
 
+-- from the first place on that is all
 pub from-first : (a b : List ℕ) → differingFrom 0 a b ≡ differing a b
 unfolding differingFrom
 from-first a b = refl
 
-differing-none : (a : List ℕ) → differing a [] ≡ 0
-unfolding differing
-differing-none [] = refl
-differing-none (x ∷ a) = refl
-
 module _ (i : ℕ) (a b : List ℕ) where
-  -- past the end of one row no place is left
-  pub past-first : length a ≤ i → differingFrom i a b ≡ 0
+  -- past the end no place is left
+  pub past-end : length a ≤ i → differingFrom i a b ≡ 0
   unfolding differingFrom differing
-  past-first h = rw (drop-of-length-le a h)
+  past-end h = rw (drop-of-length-le a h)
 
-  pub past-second : length b ≤ i → differingFrom i a b ≡ 0
-  unfolding differingFrom
-  past-second h = rw (drop-of-length-le b h) (differing-none (drop i a))
-
-  -- a place that differs is one more, and one that does not is none
+  -- a place that differs is one more
   pub place-differs : i < length a → i < length b → getD a i 0 ≢ getD b i 0 → differingFrom i a b ≡ suc (differingFrom (i + 1) a b)
   unfolding differingFrom differing
   place-differs ha hb ne = rw (add-one, drop-cons a i 0 ha, drop-cons b i 0 hb, ne-eqb (getD a i 0) (getD b i 0) ne) (omega arith)
 
+  -- and one that does not differ is none
   pub place-agrees : i < length a → i < length b → getD a i 0 ≡ getD b i 0 → differingFrom i a b ≡ differingFrom (i + 1) a b
   unfolding differingFrom differing
   place-agrees ha hb e = rw (add-one, drop-cons a i 0 ha, drop-cons b i 0 hb, eq-eqb (getD a i 0) (getD b i 0) e) (omega arith)

@@ -1,12 +1,13 @@
 -- From the votes to the answer: the votes are a message, its row is what is judged, and the judgement is what is answered and
 -- what is written.
 -- Assumes nothing.
-use mathlib.Core.Path.{_≡_, sym, ap, ap₂, _∙_}
+use mathlib.Core.Path.{_≡_, refl, sym, ap, ap₂, _∙_}
 use mathlib.Core.Bool.{Bool, true, false}
 use mathlib.Core.List.{List, _++_}
 use Prim.Native.Nat.{ℕ, _≤_, _<_}
 use native.Mathlib.Omega.{arith}
-use lib.ListN.{length, take, drop}
+use lib.Dec.{leb}
+use lib.ListN.{length, take, drop, length-take}
 use lib.Seq.{take-all}
 use borrow.Author.Tests.{le-leb, lt-leb}
 use Rattle.refusals.specs.declared.Refusal.the-variants.{BeyondReach}
@@ -18,80 +19,119 @@ use Rattle.decoder.specs.Decoding.{countOf, judgement, voted, decoded, i
 use Rattle.decoder.specs.FullRows.{Message, Received, messageAfter, correctedAfter}
 use Rattle.decoder.proofs.RowNumbers.{row-count, voted-count, voted-symbols, row-first, voted-first}
 
--- "At most τ: accepted"
+-- what a count within reach, or beyond, is answered with
 verdict : ℕ → Bool → Decoded
 verdict count b = elim b [ true ↦ Accepted count | false ↦ Refused BeyondReach ]
 
 module _ (q u : ℕ) (message row : List ℕ) where
-  pub accepted-is : countOf q u message row ≤ reach q u → judgement q u message row ≡ Accepted (countOf q u message row)
+  -- "At most τ: accepted"
+  judged-by-reach : judgement q u message row ≡ verdict (countOf q u message row) (leb (countOf q u message row) (reach q u))
   unfolding judgement verdict
-  accepted-is h = ap (verdict (countOf q u message row)) (le-leb (countOf q u message row) (reach q u) h)
+  judged-by-reach = refl
 
-  pub refused-is : reach q u < countOf q u message row → judgement q u message row ≡ Refused BeyondReach
-  unfolding judgement verdict
-  refused-is h = ap (verdict (countOf q u message row)) (lt-leb (countOf q u message row) (reach q u) h)
+  -- so a count within reach is accepted
+  pub accepted-is : countOf q u message row ≤ reach q u → judgement q u message row ≡ Accepted (countOf q u message row)
+  unfolding verdict
+  accepted-is h = judged-by-reach ∙ ap (verdict (countOf q u message row)) (le-leb (countOf q u message row) (reach q u) h)
+
+  -- and one beyond it is refused
+  refused-is : reach q u < countOf q u message row → judgement q u message row ≡ Refused BeyondReach
+  unfolding verdict
+  refused-is h = judged-by-reach ∙ ap (verdict (countOf q u message row)) (lt-leb (countOf q u message row) (reach q u) h)
 
 -- all of a list that was copied, before what stays
 copied : (front old : List ℕ) (n : ℕ) → length front ≡ n → take (length front) front ++ drop (length front) old ≡ front ++ drop n old
 copied front old n e = ap₂ (λ l m. l ++ drop m old) (take-all (length front) front (omega arith)) e
 
-module _ (q u : ℕ) (row : List ℕ) (input : Received q u row) (votes rest : List ℕ) (k : ℕ) (hk : k ≡ dimension q u) (hv : votes ≡ voted q u row ++ rest) where
-  first : take k votes ≡ voted q u row
-  first = voted-first q (input .known) u row votes rest k hk hv
+-- the votes of a row stand in the first k places of a list
+pub record Voted (q u : ℕ) (row votes : List ℕ) (k : ℕ) : Type 0 where
+  pub input : Received q u row
+  pub k-is : k ≡ dimension q u
+  pub rest : List ℕ
+  pub votes-are : votes ≡ voted q u row ++ rest
 
-  -- the first k votes are as many as they should be
+module _ {q u : ℕ} {row votes : List ℕ} {k : ℕ} (R : Voted q u row votes k) where
+  -- the first k places are the votes
+  first : take k votes ≡ voted q u row
+  first = voted-first q (R .input .known) u row votes (R .rest) k (R .k-is) (R .votes-are)
+
+  -- they are k
   pub votes-count : length (take k votes) ≡ k
-  votes-count = ap length first ∙ voted-count q (input .known) u row ∙ sym hk
+  votes-count = ap length first ∙ voted-count q (R .input .known) u row ∙ sym (R .k-is)
+
+  -- so the list is no shorter
+  pub votes-fit : k ≤ length votes
+  votes-fit = omega (arith, votes-count, length-take k votes)
 
   -- and a message
   pub votes-message : Message q u (take k votes)
   votes-message = record {
-    known = input .known;
-    code = input .code;
-    whole = votes-count ∙ hk;
-    all-symbols = rw first (voted-symbols q (input .known) u row);
+    known = R .input .known;
+    code = R .input .code;
+    whole = votes-count ∙ R .k-is;
+    all-symbols = rw first (voted-symbols q (R .input .known) u row);
   }
 
-  module _ (sent rest′ : List ℕ) (n count most : ℕ) (hn : n ≡ pointCount q) (hs : sent ≡ rowNumbers q u (take k votes) ++ rest′)
-      (hc : count ≡ countOf q u (take k votes) row) (hm : most ≡ reach q u) where
-    counted : count ≡ countOf q u (voted q u row) row
-    counted = hc ∙ ap (λ m. countOf q u m row) first
+-- their row stands in the first n places of another list, and the places that differ are counted
+pub record Judged (q u : ℕ) (row votes sent : List ℕ) (k n most count : ℕ) : Type 0 where
+  pub votes-of : Voted q u row votes k
+  pub n-is : n ≡ pointCount q
+  pub most-is : most ≡ reach q u
+  pub rest : List ℕ
+  pub sent-is : sent ≡ rowNumbers q u (take k votes) ++ rest
+  pub count-is : count ≡ countOf q u (take k votes) row
 
-    encoded : take n sent ≡ rowNumbers q u (voted q u row)
-    encoded = row-first q (input .known) u (take k votes) sent rest′ n hn hs ∙ ap (rowNumbers q u) first
+module _ {q u : ℕ} {row votes sent : List ℕ} {k n most count : ℕ} (J : Judged q u row votes sent k n most count) where
+  -- it is the votes that are judged
+  counted : count ≡ countOf q u (voted q u row) row
+  counted = J .count-is ∙ ap (λ m. countOf q u m row) (first (J .votes-of))
 
-    -- the first n symbols of the row that was encoded again
-    pub sent-count : length (take n sent) ≡ n
-    sent-count = ap length encoded ∙ row-count q (input .known) u (voted q u row) ∙ sym hn
+  -- and their row that is compared
+  encoded : take n sent ≡ rowNumbers q u (voted q u row)
+  encoded =
+      row-first q (J .votes-of .input .known) u (take k votes) sent (J .rest) n (J .n-is) (J .sent-is) ∙ ap (rowNumbers q u) (first (J .votes-of))
 
-    -- beyond reach nothing is written
-    pub beyond : most < count → decoded q u row ≡ Refused BeyondReach
-    unfolding decoded
-    beyond h = refused-is q u (voted q u row) row (omega (arith, hm, counted))
+  -- the row that was encoded again has n symbols
+  pub sent-count : length (take n sent) ≡ n
+  sent-count = ap length encoded ∙ row-count q (J .votes-of .input .known) u (voted q u row) ∙ sym (J .n-is)
 
-    -- within reach the outputs are the votes and their row
-    pub within : count ≤ most → decoded q u row ≡ Accepted count
-    unfolding decoded
-    within h = accepted-is q u (voted q u row) row (omega (arith, hm, counted)) ∙ ap Accepted (sym counted)
+  -- so the list is no shorter
+  pub sent-fit : n ≤ length sent
+  sent-fit = omega (arith, sent-count, length-take n sent)
 
-    pub message-written : (out old : List ℕ) → count ≤ most → out ≡ take (length (take k votes)) (take k votes) ++ drop (length (take k votes)) old
-        → out ≡ messageAfter q u row old
-    unfolding messageAfter ifAccepted
-    message-written out old h e =
-        e ∙ copied (take k votes) old (dimension q u) (votes-count ∙ hk) ∙ ap (λ l. l ++ drop (dimension q u) old) first
-        ∙ sym (ap (λ r. ifAccepted r (voted q u row ++ drop (dimension q u) old) old) (within h))
+  -- beyond reach
+  pub beyond : most < count → decoded q u row ≡ Refused BeyondReach
+  unfolding decoded
+  beyond h = refused-is q u (voted q u row) row (omega (arith, J .most-is, counted))
 
-    pub corrected-written : (out old : List ℕ) → count ≤ most → out ≡ take (length (take n sent)) (take n sent) ++ drop (length (take n sent)) old
-        → out ≡ correctedAfter q u row old
-    unfolding correctedAfter ifAccepted
-    corrected-written out old h e =
-        e ∙ copied (take n sent) old (pointCount q) (sent-count ∙ hn) ∙ ap (λ l. l ++ drop (pointCount q) old) encoded
-        ∙ sym (ap (λ r. ifAccepted r (rowNumbers q u (voted q u row) ++ drop (pointCount q) old) old) (within h))
+  -- within reach
+  pub within : count ≤ most → decoded q u row ≡ Accepted count
+  unfolding decoded
+  within h = accepted-is q u (voted q u row) row (omega (arith, J .most-is, counted)) ∙ ap Accepted (sym counted)
 
-    pub message-kept : (old : List ℕ) → most < count → old ≡ messageAfter q u row old
-    unfolding messageAfter ifAccepted
-    message-kept old h = sym (ap (λ r. ifAccepted r (voted q u row ++ drop (dimension q u) old) old) (beyond h))
+  -- beyond reach the message output stays
+  pub message-kept : (old : List ℕ) → most < count → old ≡ messageAfter q u row old
+  unfolding messageAfter ifAccepted
+  message-kept old h = sym (ap (λ r. ifAccepted r (voted q u row ++ drop (dimension q u) old) old) (beyond h))
 
-    pub corrected-kept : (old : List ℕ) → most < count → old ≡ correctedAfter q u row old
-    unfolding correctedAfter ifAccepted
-    corrected-kept old h = sym (ap (λ r. ifAccepted r (rowNumbers q u (voted q u row) ++ drop (pointCount q) old) old) (beyond h))
+  -- the corrected one too
+  pub corrected-kept : (old : List ℕ) → most < count → old ≡ correctedAfter q u row old
+  unfolding correctedAfter ifAccepted
+  corrected-kept old h = sym (ap (λ r. ifAccepted r (rowNumbers q u (voted q u row) ++ drop (pointCount q) old) old) (beyond h))
+
+  -- within reach the message output begins with a copy of the votes
+  pub message-written : (out old : List ℕ) → count ≤ most → out ≡ take (length (take k votes)) (take k votes) ++ drop (length (take k votes)) old
+      → out ≡ messageAfter q u row old
+  unfolding messageAfter ifAccepted
+  message-written out old h e =
+      e ∙ copied (take k votes) old (dimension q u) (votes-count (J .votes-of) ∙ J .votes-of .k-is)
+      ∙ ap (λ l. l ++ drop (dimension q u) old) (first (J .votes-of))
+      ∙ sym (ap (λ r. ifAccepted r (voted q u row ++ drop (dimension q u) old) old) (within h))
+
+  -- the corrected one begins with a copy of the votes' row
+  pub corrected-written : (out old : List ℕ) → count ≤ most → out ≡ take (length (take n sent)) (take n sent) ++ drop (length (take n sent)) old
+      → out ≡ correctedAfter q u row old
+  unfolding correctedAfter ifAccepted
+  corrected-written out old h e =
+      e ∙ copied (take n sent) old (pointCount q) (sent-count ∙ J .n-is) ∙ ap (λ l. l ++ drop (pointCount q) old) encoded
+      ∙ sym (ap (λ r. ifAccepted r (rowNumbers q u (voted q u row) ++ drop (pointCount q) old) old) (within h))

@@ -47,7 +47,7 @@ module _ (q u : ℕ) (sent : List ℕ) (m : Message q u sent) where
   -- no place differs
   count-row : countOf q u (voted q u (rowNumbers q u sent)) (rowNumbers q u sent) ≡ 0
   unfolding countOf
-  count-row = rw voted-row (differing-self (rowNumbers q u sent))
+  count-row = ap (λ m. countOf q u m (rowNumbers q u sent)) voted-row ∙ differing-self (rowNumbers q u sent)
 
   -- so it is accepted with count 0
   pub decoded-row : decoded q u (rowNumbers q u sent) ≡ Accepted 0

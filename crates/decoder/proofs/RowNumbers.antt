@@ -32,6 +32,7 @@ module _ (q : ℕ) (known : Known q) (u : ℕ) where
   row-count message =
       length-map (rowOf (symbols q) q u (map (symbol q) message)) (number q) ∙ row-length (points-arranged q known) u (map (symbol q) message)
 
+  -- all of them symbols of the field
   pub row-symbols : (message : List ℕ) → anyBeyond q (rowNumbers q u message) ≡ false
   unfolding rowNumbers
   row-symbols message = numbers-below q known (rowOf (symbols q) q u (map (symbol q) message))
@@ -43,6 +44,7 @@ module _ (q : ℕ) (known : Known q) (u : ℕ) where
       length-map (messageOf (symbols q) q u (stateAfter q u row (stepCount q) .votes)) (number q)
       ∙ length-map (nongaps q u) (λ s. getD (stateAfter q u row (stepCount q) .votes) s (symbols q .𝟘))
 
+  -- all of them symbols of the field
   pub voted-symbols : (row : List ℕ) → anyBeyond q (voted q u row) ≡ false
   unfolding voted votesAfter
   voted-symbols row = numbers-below q known (messageOf (symbols q) q u (stateAfter q u row (stepCount q) .votes))
@@ -52,9 +54,10 @@ module _ (q : ℕ) (known : Known q) (u : ℕ) where
   unfolding voted
   voted-after row votes rest t e w = w ∙ ap (λ n. votesAfter q u row n ++ rest) e
 
-  -- the first n symbols of what encoding wrote, and the first k of what voting wrote
+  -- the first n symbols of what encoding wrote
   pub row-first : (message sent rest : List ℕ) (n : ℕ) → n ≡ pointCount q → sent ≡ rowNumbers q u message ++ rest → take n sent ≡ rowNumbers q u message
   row-first message sent rest n e w = rw w (take-at (rowNumbers q u message) rest n (row-count message ∙ sym e))
 
+  -- the first k symbols of what voting wrote
   pub voted-first : (row votes rest : List ℕ) (k : ℕ) → k ≡ dimension q u → votes ≡ voted q u row ++ rest → take k votes ≡ voted q u row
   voted-first row votes rest k e w = rw w (take-at (voted q u row) rest k (voted-count row ∙ sym e))

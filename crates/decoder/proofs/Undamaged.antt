@@ -45,12 +45,14 @@ steps-reach q u pos l = omega (arith, Nat.mul-le-mul-left q pos)
 module _ {𝓢 : Symbols} {q : ℕ} (𝓛 : Laws 𝓢 q) (A : Arranged 𝓢 q) (u : ℕ) (u-below : u < pointCount q) (message : List (𝓢 .K)) where
   open Symbols 𝓢 using (K, 𝟘)
 
+  -- the message's row, and its symbols by weight
   abbrev row : List K
   row = rowOf 𝓢 q u message
 
   abbrev ω : ℕ → K
   ω = symbolFor 𝓢 q u message
 
+  -- u is below q³, so that there is a step for each weight of the message
   small : u < q * (q * q)
   small = rw count-is at u-below
 

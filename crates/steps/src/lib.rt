@@ -18,6 +18,7 @@ pub use reading::leading_of;
 pub use service::advance;
 pub use service::stop;
 pub use start::begin;
+pub use start::clear;
 pub use step::step_count;
 pub use step::take_step;
 pub use votes::is_voted;

@@ -37,10 +37,12 @@ module _ {𝓢 : Symbols} {q : ℕ} (𝓛 : Laws 𝓢 q) (A : Arranged 𝓢 q) (
     ];
   }
 
+  -- 1/1 = 1
   inverse-one : inverse 𝟙 ≡ 𝟙
   inverse-one = sym (one-mul 𝓛 (inverse 𝟙)) ∙ 𝓛 .mul-inverse 𝟙 (𝓛 .one-ne-zero)
 
   module _ (s : ℕ) where
+    -- the polynomials before the step
     abbrev S : Polynomials 𝓢 q
     S = begun 𝓢 q (below 𝓢 q ω (suc s))
 

@@ -44,6 +44,7 @@ module _ {𝓢 : Symbols} {q : ℕ} (𝓛 : Laws 𝓢 q) (A : Arranged 𝓢 q) (
   open Symbols 𝓢 using (K, 𝟘)
 
   module _ (s : ℕ) where
+    -- the polynomials before the step
     abbrev S : Polynomials 𝓢 q
     S = begun 𝓢 q (below 𝓢 q ω (suc s))
 
@@ -55,12 +56,14 @@ module _ {𝓢 : Symbols} {q : ℕ} (𝓛 : Laws 𝓢 q) (A : Arranged 𝓢 q) (
         (λ t. vote-only 𝓛 (ω s) u s (pairing 𝓢 q u s S) t (names 𝓛 A ω u u-below unvoted s) (leads 𝓛 A ω u u-below unvoted s t))
         (λ t. unfold vote in rw t (sym (unvoted s t)))
 
+    -- which every pair names
     all-agree : (i : ℕ) → i < q → same 𝓢 (getD (pairings 𝓢 q u s S) i (noPair 𝓢 q) .w) (ω s) ≡ true
     unfolding pairings
     all-agree i hi =
         equal-same 𝓛 (getD (pairings 𝓢 q u s S) i (noPair 𝓢 q) .w) (ω s)
         (ap (λ P. P .w) (getD-tab q (pairing 𝓢 q u s S) i (noPair 𝓢 q) hi) ∙ names 𝓛 A ω u u-below unvoted s i hi)
 
+    -- only the symbol of a non-gap is not zero
     carries : ω s ≢ 𝟘 → nongap q s ≡ true
     carries ne = decided (isVoted q u s) (voted-nongap q u s) (λ t. absurd (ne (unvoted s t)))
 
@@ -87,6 +90,7 @@ module _ {𝓢 : Symbols} {q : ℕ} (𝓛 : Laws 𝓢 q) (A : Arranged 𝓢 q) (
         let e′ : startWeight q + 1 - t ≡ suc (startWeight q - t) = omega arith in
         rw e (step-polys (startWeight q - t) (after 𝓢 q u row t) (rw e′ at (polys-after t (omega arith))))
 
+    -- there is a place for each weight
     votes-length : (t : ℕ) → length (after 𝓢 q u row t .votes) ≡ stepCount q
     unfolding after step
     votes-length zero = length-replicate (stepCount q) 𝟘

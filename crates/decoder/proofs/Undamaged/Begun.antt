@@ -37,6 +37,7 @@ module _ (𝓢 : Symbols) (q : ℕ) where
 module _ {𝓢 : Symbols} {q : ℕ} (𝓛 : Laws 𝓢 q) (F : Fn 𝓢 q) (i : ℕ) (hi : i < q) where
   open Symbols 𝓢 using (K, 𝟘, 𝟙)
 
+  -- the coefficients of the function, as the start takes them
   abbrev rows : List (List K)
   rows = table 𝓢 q (h 𝓢 q (valuesOf 𝓢 q F))
 

@@ -41,6 +41,7 @@ module _ (𝓢 : Symbols) (q : ℕ) where
 module _ {𝓢 : Symbols} {q : ℕ} (𝓛 : Laws 𝓢 q) (A : Arranged 𝓢 q) where
   open Symbols 𝓢 using (K, 𝟘, symbol)
 
+  -- point b of column a is one of the points
   point-below : (a b : ℕ) → a < q * q → b < q → a * q + b < pointCount q
   unfolding pointCount
   point-below a b ha hb = omega (arith, Nat.mul-le-mul-right q ha)

@@ -27,6 +27,7 @@ module _ (𝓢 : Symbols) (q : ℕ) where
     | no l ↦ shift-below 𝓢 q c a i (omega arith) ∙ sym (shift-below 𝓢 q c b i (omega arith))
   ]
 
+  -- then they have the same products by x^c, by y, by y^n and by a monomial
   pub alike-x : (c : ℕ) {a b : Fn 𝓢 q} → Alike a b → Alike (timesX 𝓢 q c a) (timesX 𝓢 q c b)
   unfolding timesX
   alike-x c {a} {b} e = record { same = λ j i hj. shift-same c i (λ n. e .same j n hj) }
@@ -60,6 +61,7 @@ module _ {𝓢 : Symbols} {q : ℕ} (𝓛 : Laws 𝓢 q) where
   infixl 70 _⊗_
   open Symbols 𝓢 using (K, 𝟘, 𝟙, _⊕_, _⊖_, _⊗_)
 
+  -- x^n times a sum of polynomials
   shift-plus : (n : ℕ) (c : K) (a b : ℕ → K) (i : ℕ) → shift 𝓢 q n (λ k. a k ⊕ c ⊗ b k) i ≡ shift 𝓢 q n a i ⊕ c ⊗ shift 𝓢 q n b i
   shift-plus n c a b i = elim (decLe n i) [
     | yes l ↦ simp (shift-at, l)
@@ -76,6 +78,7 @@ module _ {𝓢 : Symbols} {q : ℕ} (𝓛 : Laws 𝓢 q) where
       go (suc zero) i hj = simp (plus-at, timesY-one, ring, 𝓛)
       go (suc (suc j)) i hj = refl
 
+  -- one after the other
   pub alike-trans : {a b c : Fn 𝓢 q} → Alike 𝓢 q a b → Alike 𝓢 q b c → Alike 𝓢 q a c
   alike-trans e f = record { same = λ j i hj. e .same j i hj ∙ f .same j i hj }
 
@@ -85,6 +88,7 @@ module _ {𝓢 : Symbols} {q : ℕ} (𝓛 : Laws 𝓢 q) where
   timesYs-plus zero c a b = record { same = λ j i hj. refl }
   timesYs-plus (suc n) c a b = alike-trans (alike-y 𝓢 q (timesYs-plus n c a b)) (timesY-plus c (timesYs 𝓢 q n a) (timesYs 𝓢 q n b))
 
+  -- x^m times x^n
   shift-shift : (m n : ℕ) (a : ℕ → K) (i : ℕ) → shift 𝓢 q m (shift 𝓢 q n a) i ≡ shift 𝓢 q (m + n) a i
   shift-shift m n a i = elim (decLe m i) [
     | yes l ↦ elim (decLe n (i - m)) [
@@ -109,6 +113,7 @@ module _ {𝓢 : Symbols} {q : ℕ} (𝓛 : Laws 𝓢 q) where
       ]
       go (suc (suc j)) i hj = refl
 
+  -- and x^c y^n a = y^n x^c a
   timesX-timesYs : (c n : ℕ) (a : Fn 𝓢 q) → Alike 𝓢 q (timesX 𝓢 q c (timesYs 𝓢 q n a)) (timesYs 𝓢 q n (timesX 𝓢 q c a))
   unfolding timesYs
   timesX-timesYs c zero a = record { same = λ j i hj. refl }

@@ -27,10 +27,12 @@ module _ (𝓢 : Symbols) (q : ℕ) (ω : ℕ → 𝓢 .K) where
   unfoldable pub below : ℕ → Fn 𝓢 q
   below n j i = elim (ltb (weight q j i) n) [ true ↦ ω (weight q j i) | false ↦ 𝟘 ]
 
+  -- below n it has its coefficients
   pub below-in : (n j i : ℕ) → weight q j i < n → below n j i ≡ ω (weight q j i)
   unfolding below
   below-in n j i h = rw (lt-ltb (weight q j i) n h, below)
 
+  -- and none from n on
   pub below-out : (n j i : ℕ) → n ≤ weight q j i → below n j i ≡ 𝟘
   unfolding below
   below-out n j i h = rw (le-ltb (weight q j i) n h, below)
@@ -71,6 +73,7 @@ module _ {𝓢 : Symbols} {q : ℕ} (𝓛 : Laws 𝓢 q) (ω : ℕ → 𝓢 .K) 
   unfolding negated
   below-cut s = record { off = λ j i hj l. ap minus (below-out 𝓢 q ω (suc s) j i (omega arith)) ∙ minus-zero 𝓛 }
 
+  -- at the weight s it has minus that symbol
   below-lead : (s : ℕ) → nongap q s ≡ true → Lead 𝓢 q s (minus (ω s)) (negated 𝓢 q (below 𝓢 q ω (suc s)))
   unfolding negated
   below-lead s t =

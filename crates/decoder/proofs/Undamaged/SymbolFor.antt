@@ -26,10 +26,12 @@ module _ (𝓢 : Symbols) (q u : ℕ) (message : List (𝓢 .K)) where
   unfoldable pub symbolFor : ℕ → K
   symbolFor s = cond (isVoted q u s) (getD message (rank q s) 𝟘) 𝟘
 
+  -- at a voted weight it is the message's
   symbolFor-voted : (s : ℕ) → isVoted q u s ≡ true → symbolFor s ≡ getD message (rank q s) 𝟘
   unfolding symbolFor
   symbolFor-voted s t = rw t
 
+  -- at any other it is zero
   pub symbolFor-unvoted : (s : ℕ) → isVoted q u s ≡ false → symbolFor s ≡ 𝟘
   unfolding symbolFor
   symbolFor-unvoted s t = rw t

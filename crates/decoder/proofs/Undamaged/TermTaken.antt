@@ -29,6 +29,7 @@ module _ {𝓢 : Symbols} {q : ℕ} (𝓛 : Laws 𝓢 q) (A : Arranged 𝓢 q) (
   infixl 70 _⊗_
   open Symbols 𝓢 using (K, 𝟘, _⊕_, _⊗_, number)
 
+  -- the polynomials when the terms below n are left
   abbrev left : ℕ → Polynomials 𝓢 q
   left n = begun 𝓢 q (below 𝓢 q ω n)
 
@@ -41,6 +42,7 @@ module _ {𝓢 : Symbols} {q : ℕ} (𝓛 : Laws 𝓢 q) (A : Arranged 𝓢 q) (
   nothing-taken z = ap (start 𝓢 q) (values-same 𝓢 q (below 𝓢 q ω (suc s)) (below 𝓢 q ω s) (below-same 𝓛 ω s z))
 
   module _ (t : nongap q s ≡ true) where
+    -- the upper parts before the step: y^i of f_i, and nothing of g_i
     upper-f : (i j k : ℕ) → i < q → j < q → coefficient 𝓢 q (left (suc s)) (f q i) upper j k ≡ timesYs 𝓢 q i (one 𝓢 q) j k
     upper-f i j k hi hj = held-f 𝓛 (below 𝓢 q ω (suc s)) i hi upper j k (omega arith) hj ∙ part-f-upper 𝓛 (below 𝓢 q ω (suc s)) i hi j k
 
@@ -73,11 +75,13 @@ module _ {𝓢 : Symbols} {q : ℕ} (𝓛 : Laws 𝓢 q) (A : Arranged 𝓢 q) (
         ∙ sym (part-f-lower 𝓛 (below 𝓢 q ω s) i hi A (small s) j k hj)
     taken-f i hi (suc (suc part)) j k hp hj = absurd (omega arith)
 
+    -- so all 2q polynomials are those of what is left
     taken : (p : ℕ) → p < 2 * q → (part j k : ℕ) → part ≤ lower → j < q → substitutedPart 𝓢 q s (ω s) (left (suc s)) p part j k ≡ startPart 𝓢 q rows p part j k
     taken =
         each-polynomial q (λ p. (part j k : ℕ) → part ≤ lower → j < q → substitutedPart 𝓢 q s (ω s) (left (suc s)) p part j k ≡ startPart 𝓢 q rows p part j k)
         taken-g taken-f
 
+    -- as one equation
     something-taken : polynomials 𝓢 q (substitutedPart 𝓢 q s (ω s) (left (suc s))) ≡ left s
     unfolding begun start
     something-taken =

@@ -14,11 +14,12 @@ both true b t = (refl, t)
 both false b t = absurd (false≢true t)
 
 module _ (q u s : ℕ) where
-  -- a weight above u is not voted, nor is a gap
+  -- a weight above u is not voted
   pub unvoted-above : u < s → isVoted q u s ≡ false
   unfolding isVoted
   unvoted-above h = rw (lt-leb s u h)
 
+  -- nor is a gap
   pub unvoted-gap : gap q s ≡ true → isVoted q u s ≡ false
   unfolding isVoted nongap
   unvoted-gap t = ap (λ b. leb s u && not b) t ∙ and-false (leb s u)
@@ -28,11 +29,12 @@ module _ (q u s : ℕ) where
   unfolding isVoted
   is-voted h t = rw (le-leb s u h) t
 
-  -- a voted weight is at most u, and no gap
+  -- a voted weight is at most u
   pub voted-below : isVoted q u s ≡ true → s ≤ u
   unfolding isVoted
   voted-below t = leb-true s u (both (leb s u) (nongap q s) t .0)
 
+  -- and no gap
   pub voted-nongap : isVoted q u s ≡ true → nongap q s ≡ true
   unfolding isVoted
   voted-nongap t = both (leb s u) (nongap q s) t .1

@@ -1,0 +1,22 @@
+-- The promises settle what is answered and left: any two results that a promise allows for one call are equal.
+-- Assumes nothing.
+use mathlib.Core.Path.{_≡_, sym, _∙_}
+use mathlib.Core.Bool.{Bool, cond}
+use mathlib.Core.List.{List}
+use Prim.Native.Nat.{ℕ}
+use Rattle.decoder.specs.declared.Decoded.{Decoded}
+use Rattle.decoder.specs.PassOn.{passedOn}
+use Rattle.decoder.proofs.Promises.{Promised}
+
+-- two results of decoding
+pub decode-settled : (q u : ℕ) (row work message corrected : List ℕ) {answer answer′ : Decoded} {work₁ work₂ message₁ message₂ corrected₁ corrected₂ : List ℕ}
+    → Promised q u row work message corrected answer work₁ message₁ corrected₁ → Promised q u row work message corrected answer′ work₂ message₂ corrected₂
+    → (answer ≡ answer′) × (work₁ ≡ work₂) × (message₁ ≡ message₂) × (corrected₁ ≡ corrected₂)
+decode-settled q u row work message corrected P P′ =
+    (P .answer-is ∙ sym (P′ .answer-is), P .work-is ∙ sym (P′ .work-is), P .message-is ∙ sym (P′ .message-is), P .corrected-is ∙ sym (P′ .corrected-is))
+
+-- two parts that are passed on: their symbols, and where they start
+pub pass-on-settled : (q : ℕ) (accepted : Bool) (received corrected : List ℕ) (start start′ : ℕ × ℕ) {part part′ : List ℕ} {at at′ : ℕ × ℕ}
+    → part ≡ passedOn q accepted received corrected → at ≡ cond accepted start′ start
+    → part′ ≡ passedOn q accepted received corrected → at′ ≡ cond accepted start′ start → (part ≡ part′) × (at ≡ at′)
+pass-on-settled q accepted received corrected start start′ e f e′ f′ = (e ∙ sym e′, f ∙ sym f′)
