@@ -1,0 +1,55 @@
+-- `decode_vectors::decode_lines` meets its contract. The loop's invariant: `at` is within the text. Assumes nothing.
+use Prim.Native.Nat.{_≤_, _-_}
+use lib.ListN.{length}
+use borrow.Author.Needs.{needs}
+use Rattle.decode_vectors.proofs.decode_lines.Statement.{statement}
+use Rattle.decode_vectors.proofs.decode_lines.Tie as tie
+
+abbrev Inv-loop : tie.InvT-loop
+Inv-loop text at₀ at = at ≤ length text
+
+abbrev μ-loop : tie.MeasureT-loop
+μ-loop text at₀ at = length text - at
+
+loop-holds : tie.Need-loop-holds Inv-loop μ-loop
+loop-holds c = search needs
+
+line-end-requires : tie.Need-line-end-requires Inv-loop μ-loop
+line-end-requires c κs = search needs
+
+sub-decode-line : tie.Need-sub-decode-line Inv-loop μ-loop
+sub-decode-line c = search needs
+
+part-decode-line-start : tie.Need-part-decode-line-start Inv-loop μ-loop
+part-decode-line-start c = search needs
+
+part-decode-line-end : tie.Need-part-decode-line-end Inv-loop μ-loop
+part-decode-line-end c = search needs
+
+decode-line-requires : tie.Need-decode-line-requires Inv-loop μ-loop
+decode-line-requires c κs = search needs
+
+loop-less : tie.Need-loop-less Inv-loop μ-loop
+loop-less c = search needs
+
+loop-again : tie.Need-loop-again Inv-loop μ-loop
+loop-again c = search needs
+
+returns : tie.Need-returns Inv-loop μ-loop
+returns c = search needs
+
+pub decode-lines-spec : {M : Type 1} → statement M
+decode-lines-spec =
+    tie.close
+    (tie.spec
+    Inv-loop
+    μ-loop
+    loop-holds
+    line-end-requires
+    sub-decode-line
+    part-decode-line-start
+    part-decode-line-end
+    decode-line-requires
+    loop-less
+    loop-again
+    returns)
