@@ -4,7 +4,9 @@ use mathlib.Core.Path.{_≡_, sym, _∙_}
 use mathlib.Core.Bool.{Bool, cond}
 use mathlib.Core.List.{List}
 use Prim.Native.Nat.{ℕ}
+use lib.ListN.{length}
 use Rattle.decoder.specs.declared.Decoded.{Decoded}
+use Rattle.decoder.specs.Decoding.{decodeChecks, decodeAnswer}
 use Rattle.decoder.specs.PassOn.{passedOn}
 use Rattle.decoder.proofs.Promises.{Promised}
 
@@ -14,6 +16,13 @@ pub decode-settled : (q u : ℕ) (row work message corrected : List ℕ) {answer
     → (answer ≡ answer′) × (work₁ ≡ work₂) × (message₁ ≡ message₂) × (corrected₁ ≡ corrected₂)
 decode-settled q u row work message corrected P P′ =
     (P .answer-is ∙ sym (P′ .answer-is), P .work-is ∙ sym (P′ .work-is), P .message-is ∙ sym (P′ .message-is), P .corrected-is ∙ sym (P′ .corrected-is))
+
+-- "No answer depends on what a work or output area held before": only their lengths count
+pub answer-by-lengths : (q u : ℕ) (row work work′ message message′ corrected corrected′ : List ℕ)
+    → length work ≡ length work′ → length message ≡ length message′ → length corrected ≡ length corrected′
+    → decodeAnswer q u row work message corrected ≡ decodeAnswer q u row work′ message′ corrected′
+unfolding decodeAnswer decodeChecks
+answer-by-lengths q u row work work′ message message′ corrected corrected′ e f g = rw (e, f, g)
 
 -- two parts that are passed on: their symbols, and where they start
 pub pass-on-settled : (q : ℕ) (accepted : Bool) (received corrected : List ℕ) (start start′ : ℕ × ℕ) {part part′ : List ℕ} {at at′ : ℕ × ℕ}

@@ -4,6 +4,8 @@ use refusals::Refusal;
 mod judging;
 mod voting;
 
+pub use judging::judge;
+pub use voting::vote_all;
 ghost use mathlib.Core.Path.{_≡_};
 ghost use mathlib.Core.Bool.{cond};
 ghost use denote.Ref.{ptr};

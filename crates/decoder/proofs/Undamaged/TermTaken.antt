@@ -50,7 +50,8 @@ module _ {𝓢 : Symbols} {q : ℕ} (𝓛 : Laws 𝓢 q) (A : Arranged 𝓢 q) (
     upper-g i j k hi hj = held-g 𝓛 (below 𝓢 q ω (suc s)) i hi upper j k (omega arith) hj ∙ part-g-upper 𝓛 (below 𝓢 q ω (suc s)) i hi j k
 
     -- g_i does not change
-    taken-g : (i : ℕ) → i < q → (part j k : ℕ) → part ≤ lower → j < q → substitutedPart 𝓢 q s (ω s) (left (suc s)) (g q i) part j k ≡ startPart 𝓢 q rows (g q i) part j k
+    taken-g : (i : ℕ) → i < q → (part j k : ℕ) → part ≤ lower → j < q
+        → substitutedPart 𝓢 q s (ω s) (left (suc s)) (g q i) part j k ≡ startPart 𝓢 q rows (g q i) part j k
     unfolding substitutedPart
     taken-g i hi zero j k hp hj = upper-g i j k hi hj ∙ sym (part-g-upper 𝓛 (below 𝓢 q ω s) i hi j k)
     taken-g i hi (suc zero) j k hp hj =
@@ -60,7 +61,8 @@ module _ {𝓢 : Symbols} {q : ℕ} (𝓛 : Laws 𝓢 q) (A : Arranged 𝓢 q) (
     taken-g i hi (suc (suc part)) j k hp hj = absurd (omega arith)
 
     -- f_i loses y^i times the term
-    taken-f : (i : ℕ) → i < q → (part j k : ℕ) → part ≤ lower → j < q → substitutedPart 𝓢 q s (ω s) (left (suc s)) (f q i) part j k ≡ startPart 𝓢 q rows (f q i) part j k
+    taken-f : (i : ℕ) → i < q → (part j k : ℕ) → part ≤ lower → j < q
+        → substitutedPart 𝓢 q s (ω s) (left (suc s)) (f q i) part j k ≡ startPart 𝓢 q rows (f q i) part j k
     unfolding substitutedPart
     taken-f i hi zero j k hp hj = upper-f i j k hi hj ∙ sym (part-f-upper 𝓛 (below 𝓢 q ω s) i hi j k)
     taken-f i hi (suc zero) j k hp hj =
@@ -76,7 +78,8 @@ module _ {𝓢 : Symbols} {q : ℕ} (𝓛 : Laws 𝓢 q) (A : Arranged 𝓢 q) (
     taken-f i hi (suc (suc part)) j k hp hj = absurd (omega arith)
 
     -- so all 2q polynomials are those of what is left
-    taken : (p : ℕ) → p < 2 * q → (part j k : ℕ) → part ≤ lower → j < q → substitutedPart 𝓢 q s (ω s) (left (suc s)) p part j k ≡ startPart 𝓢 q rows p part j k
+    taken : (p : ℕ) → p < 2 * q → (part j k : ℕ) → part ≤ lower → j < q
+        → substitutedPart 𝓢 q s (ω s) (left (suc s)) p part j k ≡ startPart 𝓢 q rows p part j k
     taken =
         each-polynomial q (λ p. (part j k : ℕ) → part ≤ lower → j < q → substitutedPart 𝓢 q s (ω s) (left (suc s)) p part j k ≡ startPart 𝓢 q rows p part j k)
         taken-g taken-f
