@@ -1,0 +1,150 @@
+// Runs the stop service on the cases of standard input and tells of each the answer, the output and the work area, every place
+// of both: a digit for a symbol, a dot where nothing was written. A case is a line: q, u, the number of steps, the lengths of
+// the work area and of the output, and the row. Among them are document 01's entries "76 steps pass, 77 gives 3" and "work of
+// 1,472 passes, 1,471 gives 6". The files stdin and stdout were made outside: they are what tests/reference prints for
+// `cargo run --example stop_vectors -- cases` and `-- answers`.
+use libc::STDIN_FILENO;
+use libc::STDOUT_FILENO;
+use steps::Stopped;
+ghost use Prim.Native.Nat.{_<_, _≤_};
+ghost use lib.ListN.{length};
+
+// What stands in the areas before a call, and what is read where no digit is: no symbol.
+const UNTOUCHED: u8 = 255;
+
+// Where the row starts in a case, after numbers of fixed widths.
+const ROW_START: usize = 16;
+
+// The number of a digit. Letters beyond f are the numbers from 16 on, which are no symbols.
+fn number_of_digit(digit: u8) -> u8 {
+    match digit {
+        b'0'..=b'9' => digit - b'0',
+        b'a'..=b'z' => digit - b'a' + 10,
+        _ => UNTOUCHED,
+    }
+}
+
+// The digit of a symbol, and a dot for what is none.
+fn digit_of_symbol(symbol: u8) -> u8 {
+    match symbol {
+        0..=9 => b'0' + symbol,
+        10..=15 => b'a' + (symbol - 10),
+        _ => b'.',
+    }
+}
+
+// Digits into their numbers, where they stand.
+fn read_symbols(text: &mut [u8]) {
+    let mut i = 0;
+    while i < text.len() {
+        text[i] = number_of_digit(text[i]);
+        i += 1;
+    }
+}
+
+// Symbols into their digits, where they stand.
+fn spell_symbols(area: &mut [u8]) {
+    let mut i = 0;
+    while i < area.len() {
+        area[i] = digit_of_symbol(area[i]);
+        i += 1;
+    }
+}
+
+// A decimal number of at most four digits.
+fn read_number(text: &[u8]) -> usize {
+    let mut number = 0;
+    let mut i = 0;
+    while i < text.len() {
+        number = number % 1000 * 10 + number_of_digit(text[i]) as usize;
+        i += 1;
+    }
+    number
+}
+
+// The answer as a word, with a number for a refusal.
+fn tell(answer: Stopped) {
+    match answer {
+        Stopped::Done => {
+            io::write_all(STDOUT_FILENO, b"done ");
+        }
+        Stopped::Refused(why) => {
+            io::write_all(STDOUT_FILENO, b"refuse ");
+            io::print_decimal(STDOUT_FILENO, refusals::number_of(why) as u64);
+            io::write_all(STDOUT_FILENO, b" ");
+        }
+    }
+}
+
+// Stops after some steps, and tells what came of it.
+fn run_case(q: usize, u: usize, count: usize, row: &[u8], work: &mut [u8], output: &mut [u8]) {
+    tell(steps::stop(q, u, count, row, work, output));
+    spell_symbols(output);
+    io::write_all(STDOUT_FILENO, output);
+    io::write_all(STDOUT_FILENO, b" ");
+    spell_symbols(work);
+    io::write_all(STDOUT_FILENO, work);
+    io::write_all(STDOUT_FILENO, b"\n");
+}
+
+// Repeats the numbers of a case and runs it. A case with longer areas than there are is left out.
+fn run_line(line: &mut [u8]) {
+    let mut work = [UNTOUCHED; 1480];
+    let mut output = [UNTOUCHED; 64];
+    if line.len() <= ROW_START {
+        return;
+    }
+    let end = line.len() - 1;
+    let q = read_number(&line[0..1]);
+    let u = read_number(&line[2..4]);
+    let count = read_number(&line[5..7]);
+    let work_length = read_number(&line[8..12]);
+    let output_length = read_number(&line[13..15]);
+    if 1480 < work_length {
+        return;
+    }
+    if 64 < output_length {
+        return;
+    }
+    io::write_all(STDOUT_FILENO, &line[0..ROW_START]);
+    read_symbols(&mut line[ROW_START..end]);
+    run_case(
+        q,
+        u,
+        count,
+        &line[ROW_START..end],
+        &mut work[..work_length],
+        &mut output[..output_length],
+    );
+}
+
+// Where the line that starts at a place ends: past its newline, or at the end of the text.
+fn line_end(text: &[u8], start: usize) -> usize
+    requires { ⌜ start < length (now text) ⌝ }
+    ensures { λ r. ⌜ (start < r) × (r ≤ length (now (text .entry))) ⌝ }
+{
+    let mut i = start;
+    while i < text.len() {
+        if text[i] == b'\n' {
+            return i + 1;
+        }
+        i += 1;
+    }
+    i
+}
+
+// All cases of a text, one to a line.
+fn run_lines(text: &mut [u8]) {
+    let mut at = 0;
+    while at < text.len() {
+        let end = line_end(text, at);
+        run_line(&mut text[at..end]);
+        at = end;
+    }
+}
+
+fn main() {
+    let mut text = io::large_buffer();
+    let got = io::read_full(STDIN_FILENO, &mut text);
+    run_lines(&mut text[..got]);
+}
