@@ -1,2 +1,5 @@
 pub mod Layout
 pub mod Verification
+pub mod Inside
+pub mod AsBytes
+pub mod Copy

@@ -1,7 +1,29 @@
 // Blocks: when is a copy a copy?
-use refusals::Refusal;
+mod header; // header.rt: the 8 bytes before the rows
+mod unpacking; // unpacking.rt: two symbols from each byte, and symbols compared
+mod row; // row.rt: the record of one row
+mod verdict; // verdict.rt: the verdict before the first row and after each
 
-// The outcome of one row: state 0 equal, 1 accepted but other message, 2 unreadable; and the count, 0 when unreadable.
+ghost use mathlib.Core.Path.{_≡_};
+ghost use Prim.Native.Nat.{ℕ};
+ghost use Rattle.block.specs.declared.Verified.the-variants.{Copied};
+ghost use Rattle.block.specs.Copy.{CopyOf};
+ghost use Rattle.block.specs.Verification.{verifyAnswer, verifyRecords, verifyWork};
+ghost use Rattle.block.specs.AsBytes.{verifyBytesAnswer, verifyBytesRecords, verifyBytesWork};
+use refusals::Refusal;
+use row::row_record;
+use verdict::next_verdict;
+use verdict::rows_to_read;
+use verdict::verdict_before;
+
+// The states of a row.
+pub const EQUAL: u8 = 0;
+
+pub const OTHER_MESSAGE: u8 = 1;
+
+pub const UNREADABLE: u8 = 2;
+
+// The outcome of one row: its state; and the count, 0 when unreadable.
 pub struct Record {
     pub state: u8,
     pub count: u8,
@@ -15,4 +37,43 @@ pub enum Verified {
     Differs(usize),
     Unreadable(usize),
     Refused(Refusal),
+}
+
+// Verifies a block against its payload.
+pub fn verify(block: &[u8], payload: &[u8], records: &mut [Record], work: &mut [u8]) -> Verified
+    ensures answered { λ v. ⌜ v ≡ verifyAnswer (now (block .entry)) (now (payload .entry)) (now (records .entry)) (now (work .entry)) ⌝ }
+    ensures records_left { λ _. ⌜ now (records .exit) ≡ verifyRecords (now (block .entry)) (now (payload .entry)) (now (records .entry)) (now (work .entry)) ⌝ }
+    ensures work_left { λ _. ⌜ now (work .exit) ≡ verifyWork (now (block .entry)) (now (payload .entry)) (now (records .entry)) (now (work .entry)) ⌝ }
+    ensures copied { λ v. ⌜ ((total : ℕ) → v ≡ Copied total → CopyOf (now (block .entry)) (now (payload .entry))) ⌝ }
+{
+    let mut verdict = verdict_before(block, payload, records.len(), work.len());
+    let rows = rows_to_read(verdict, block);
+    let mut r = 0;
+    while r < rows {
+        let outcome = row_record(block, payload, r, work);
+        records[r] = outcome;
+        verdict = next_verdict(verdict, r, outcome);
+        r += 1;
+    }
+    verdict
+}
+
+// Verifies a block against its payload; each record is two of the lent bytes, its state and its count.
+pub fn verify_bytes(block: &[u8], payload: &[u8], records: &mut [u8], work: &mut [u8]) -> Verified
+    ensures answered { λ v. ⌜ v ≡ verifyBytesAnswer (now (block .entry)) (now (payload .entry)) (now (records .entry)) (now (work .entry)) ⌝ }
+    ensures records_left { λ _. ⌜ now (records .exit) ≡ verifyBytesRecords (now (block .entry)) (now (payload .entry)) (now (records .entry)) (now (work .entry)) ⌝ }
+    ensures work_left { λ _. ⌜ now (work .exit) ≡ verifyBytesWork (now (block .entry)) (now (payload .entry)) (now (records .entry)) (now (work .entry)) ⌝ }
+    ensures copied { λ v. ⌜ ((total : ℕ) → v ≡ Copied total → CopyOf (now (block .entry)) (now (payload .entry))) ⌝ }
+{
+    let mut verdict = verdict_before(block, payload, records.len() / 2, work.len());
+    let rows = rows_to_read(verdict, block);
+    let mut r = 0;
+    while r < rows {
+        let outcome = row_record(block, payload, r, work);
+        records[2 * r] = outcome.state;
+        records[2 * r + 1] = outcome.count;
+        verdict = next_verdict(verdict, r, outcome);
+        r += 1;
+    }
+    verdict
 }

@@ -1,0 +1,124 @@
+-- Copied means a copy: every row of the block decodes within reach to exactly the payload's symbols.
+-- Assumes nothing.
+use mathlib.Core.Path.{_≡_, refl, sym, ap, _∙_}
+use mathlib.Core.Logic.{⊎-elim}
+use mathlib.Core.Bool.{Bool, true, false}
+use mathlib.Core.List.{List, [], _∷_}
+use Prim.Native.Nat.{ℕ, zero, suc, _+_, _/_, _≤_, _<_, zero-le}
+use native.Mathlib.Omega.{arith}
+use lib.Dec.{eqb}
+use lib.ListN.{length}
+use borrow.Author.Tests.{eqb-true, not-false}
+use Rattle.refusals.specs.declared.Refusal.{Refusal}
+use Rattle.refusals.specs.Numbers.{firstOf}
+use Rattle.refusals.proofs.Checks.{Passes, clear, refused, passed, decideChecks}
+use Rattle.lists.specs.Tables.{from, tab}
+use Rattle.lists.proofs.Numbers.{same-or-not}
+use Rattle.decoder.specs.declared.Decoded.{Decoded}
+use Rattle.decoder.specs.declared.Decoded.the-variants.{Accepted, Refused as Declined}
+use Rattle.decoder.specs.Decoding.{countOf, voted, decoded}
+use Rattle.block.specs.Layout.{tapeQ, tapeU, rowCount, blockRow, payloadRow}
+use Rattle.block.specs.Verification.{sameList, outcome, rowRecord, verdictFrom, allRecords, verifyChecks, verifyAnswer}
+use Rattle.block.specs.Inside.{checksFor}
+use Rattle.block.specs.AsBytes.{byteChecks, verifyBytesAnswer}
+use Rattle.block.specs.Copy.{ReadAs, CopyOf}
+use Rattle.block.specs.declared.Record.{Record}
+use Rattle.block.specs.declared.Verified.{Verified}
+use Rattle.block.specs.declared.Verified.the-variants.{Copied, Refused}
+use Rattle.block.proofs.Verdicts.{byState}
+use Rattle.block.proofs.Start.{both}
+use Rattle.block.proofs.Outcomes.{accepted-within}
+
+-- lists that compare as the same are the same
+same-lists : (xs ys : List ℕ) → sameList xs ys ≡ true → xs ≡ ys
+unfolding sameList
+same-lists [] [] same = refl
+same-lists [] (y ∷ ys) same = let z : _≡_ {A = ℕ} 0 1 = cc in absurd (omega arith)
+same-lists (x ∷ xs) [] same = let z : _≡_ {A = ℕ} 0 1 = cc in absurd (omega arith)
+same-lists (x ∷ xs) (y ∷ ys) same =
+    let halves = both (eqb x y) (sameList xs ys) same in
+    rw (eqb-true x y (halves .0), same-lists xs ys (halves .1))
+
+-- only an acceptance of the same message has state 0
+state-equal : (answer : Decoded) (equal : Bool) → outcome answer equal .state ≡ 0
+    → ((count : ℕ) × (answer ≡ Accepted count)) × (equal ≡ true)
+unfolding outcome
+state-equal (Accepted count) true is = ((count, refl), refl)
+state-equal (Accepted count) false is = absurd (omega (arith, is))
+state-equal (Declined why) equal is = absurd (omega (arith, is))
+
+-- a row in state 0 decodes to its payload's symbols
+equal-reads : (block payload : List ℕ) (r : ℕ) → rowRecord block payload r .state ≡ 0
+    → ReadAs (blockRow block r) (payloadRow payload r)
+unfolding rowRecord
+equal-reads block payload r is =
+    let row = blockRow block r in
+    let told = state-equal (decoded tapeQ tapeU row) (sameList (voted tapeQ tapeU row) (payloadRow payload r)) is in
+    let votes = same-lists (voted tapeQ tapeU row) (payloadRow payload r) (told .1) in
+    let reached = accepted-within row (told .0 .0) (told .0 .1) in
+    record {
+      count = told .0 .0;
+      accepted = told .0 .1;
+      votes = votes;
+      differing = reached .counted ∙ ap (λ (m : List ℕ). countOf tapeQ tapeU m row) votes;
+      within = reached .reached;
+    }
+
+-- a row that settles the verdict otherwise rules Copied out
+first-equal : (r total : ℕ) (equal : Verified) (zero one : Bool) → byState zero one r equal ≡ Copied total
+    → (zero ≡ true) × (equal ≡ Copied total)
+first-equal r total equal true one copied = (refl, copied)
+first-equal r total equal false true copied = let z : _≡_ {A = ℕ} 0 1 = cc in absurd (omega arith)
+first-equal r total equal false false copied = let z : _≡_ {A = ℕ} 0 1 = cc in absurd (omega arith)
+
+-- where the verdict over the records from row i on is Copied, each of them has state 0
+all-equal : (f : ℕ → Record) (n i r total total′ : ℕ) → verdictFrom r total (from i n f) ≡ Copied total′ → (j : ℕ) → i ≤ j
+    → j < i + n → f j .state ≡ 0
+unfolding verdictFrom from
+all-equal f zero i r total total′ copied j low high = absurd (omega arith)
+all-equal f (suc n) i r total total′ copied j low high =
+    let rest = verdictFrom (suc r) (total + f i .count) (from (suc i) n f) in
+    let told = first-equal r total′ rest (eqb (f i .state) 0) (eqb (f i .state) 1) copied in
+    ⊎-elim (λ same. rw same (eqb-true (f i .state) 0 (told .0)))
+    (λ other. all-equal f n (suc i) (suc r) (total + f i .count) total′ (told .1) j (omega arith) (omega arith))
+    (same-or-not j i)
+
+-- Copied is answered only for a copy, however many records and places are lent
+copied-only : (block payload : List ℕ) (records work total : ℕ)
+    → firstOf (checksFor block payload records work) Refused (verdictFrom 0 0 (allRecords block payload)) ≡ Copied total
+    → CopyOf block payload
+unfolding checksFor allRecords tab
+copied-only block payload records work total copied =
+    ⊎-elim (λ refusing. never (refusing .0) (sym (refused Refused _ (refusing .1)) ∙ copied))
+    (λ passing. copy passing (sym (passed Refused _ passing) ∙ copied))
+    (decideChecks (checksFor block payload records work))
+  where
+    -- a refusal is not Copied
+    never : (why : Refusal) → Refused why ≡ Copied total → CopyOf block payload
+    never why same = let z : _≡_ {A = ℕ} 0 1 = cc in absurd (omega arith)
+
+    -- where no check holds, every row is in state 0
+    copy : Passes (checksFor block payload records work)
+        → verdictFrom 0 0 (from 0 (rowCount block) (rowRecord block payload)) ≡ Copied total → CopyOf block payload
+    copy (clear header (clear messages rest)) all =
+        record {
+          header = not-false _ header;
+          messages = eqb-true _ _ (not-false _ messages);
+          rows =
+              λ r less.
+              equal-reads block payload r
+              (all-equal (rowRecord block payload) (rowCount block) 0 0 0 total all r zero-le (omega arith));
+        }
+
+-- the reading room's question: Copied means that every row decodes within reach to exactly the payload's symbols
+pub copied-is-a-copy : (block payload : List ℕ) (records : List Record) (work : List ℕ) (total : ℕ)
+    → verifyAnswer block payload records work ≡ Copied total → CopyOf block payload
+unfolding verifyAnswer verifyChecks checksFor
+copied-is-a-copy block payload records work total copied = copied-only block payload (length records) (length work) total copied
+
+-- the same where a record is two bytes
+pub copied-bytes-is-a-copy : (block payload records work : List ℕ) (total : ℕ)
+    → verifyBytesAnswer block payload records work ≡ Copied total → CopyOf block payload
+unfolding verifyBytesAnswer byteChecks
+copied-bytes-is-a-copy block payload records work total copied =
+    copied-only block payload (length records / 2) (length work) total copied

@@ -1,0 +1,101 @@
+-- The verdict before the first row, check by check; and what is known where no check holds.
+-- Assumes nothing.
+use mathlib.Core.Path.{_≡_, refl, sym, ap}
+use mathlib.Core.Bool.{Bool, true, false, not, _&&_}
+use mathlib.Core.List.{List}
+use Prim.Native.Nat.{ℕ, _+_, _*_, _≤_, _<_}
+use native.Mathlib.Omega.{arith}
+use lib.Dec.{leb, eqb}
+use lib.ListN.{length, getD}
+use borrow.Author.Tests.{eq-eqb, ne-eqb, le-ltb, lt-ltb, eqb-true, leb-true, ltb-false, not-false}
+use Rattle.refusals.specs.declared.Refusal.the-variants.{ShortWork, BadBlock, WrongPayload, FewRecords}
+use Rattle.refusals.proofs.Checks.{here, later, Passes, done, clear, refused, passed}
+use Rattle.published.specs.Picture.{areaSize}
+use Rattle.block.specs.Layout.{tapeQ, tapeU, fourBytes, rowCount, isBlock}
+use Rattle.block.specs.Inside.{checksFor, verdictBefore}
+use Rattle.block.specs.declared.Verified.the-variants.{Copied, Refused}
+
+-- the verdict before any row is read: each check by its number, and that none holds
+module _ (block payload : List ℕ) (records work : ℕ) where
+  -- 9: no block
+  pub before-9 : isBlock block ≡ false → Refused BadBlock ≡ verdictBefore block payload records work
+  unfolding verdictBefore checksFor
+  before-9 bad = sym (refused Refused (Copied 0) (here (ap not bad)))
+
+  module _ (good : isBlock block ≡ true) where
+    -- 10: a payload of another length
+    pub before-10 : (length payload ≡ 20 * rowCount block → ⊥) → Refused WrongPayload ≡ verdictBefore block payload records work
+    unfolding verdictBefore checksFor
+    before-10 other = sym (refused Refused (Copied 0) (later (ap not good) (here (ap not (ne-eqb _ _ other)))))
+
+    module _ (long : length payload ≡ 20 * rowCount block) where
+      -- 11: fewer records
+      pub before-11 : records < rowCount block → Refused FewRecords ≡ verdictBefore block payload records work
+      unfolding verdictBefore checksFor
+      before-11 few =
+          sym (refused Refused (Copied 0) (later (ap not good) (later (ap not (eq-eqb _ _ long)) (here (lt-ltb _ _ few)))))
+
+      module _ (enough : rowCount block ≤ records) where
+        -- 6: a work area too short
+        pub before-6 : work < areaSize tapeQ → Refused ShortWork ≡ verdictBefore block payload records work
+        unfolding verdictBefore checksFor
+        before-6 short =
+            sym
+            (refused Refused (Copied 0)
+            (later (ap not good)
+            (later (ap not (eq-eqb _ _ long)) (later (le-ltb _ _ enough) (here (lt-ltb _ _ short))))))
+
+        -- nothing is wrong
+        pub before-none : areaSize tapeQ ≤ work → Copied 0 ≡ verdictBefore block payload records work
+        unfolding verdictBefore checksFor
+        before-none room =
+            sym
+            (passed Refused (Copied 0)
+            (clear (ap not good)
+            (clear (ap not (eq-eqb _ _ long)) (clear (le-ltb _ _ enough) (clear (le-ltb _ _ room) done)))))
+
+-- what is known of a block and of what is lent where no check holds
+pub record Fit (block payload : List ℕ) (records work : ℕ) : Type 0 where
+  pub rows : length block ≡ 8 + 32 * rowCount block
+  pub some : 1 ≤ rowCount block
+  pub most : rowCount block ≤ 1024
+  pub messages : length payload ≡ 20 * rowCount block
+  pub enough : rowCount block ≤ records
+  pub room : areaSize tapeQ ≤ work
+
+-- both halves of a conjunction hold
+pub both : (a b : Bool) → (a && b) ≡ true → (a ≡ true) × (b ≡ true)
+both true b is = (refl, is)
+both false b is = let z : _≡_ {A = ℕ} 0 1 = cc in absurd (omega arith)
+
+-- the first and the last two of six
+of-six : (a b c d e f : Bool) → (a && (b && (c && (d && (e && f))))) ≡ true → (a ≡ true) × (e ≡ true) × (f ≡ true)
+of-six a b c d e f is =
+    let one = both a (b && (c && (d && (e && f)))) is in
+    let three = both c (d && (e && f)) (both b (c && (d && (e && f))) (one .1) .1) in
+    let five = both e f (both d (e && f) (three .1) .1) in
+    (one .0, five .0, five .1)
+
+-- no check holds
+pub fit : (block payload : List ℕ) (records work : ℕ) → Passes (checksFor block payload records work)
+    → Fit block payload records work
+unfolding checksFor isBlock
+fit block payload records work (clear header (clear messages (clear enough (clear room done)))) =
+    let tests =
+    of-six
+    (eqb (length block) (8 + 32 * rowCount block))
+    (eqb (fourBytes block 0) (4 + 32 * rowCount block))
+    (eqb (getD block 4 0) 1)
+    (eqb (getD block 5 0) tapeU)
+    (leb 1 (rowCount block))
+    (leb (rowCount block) 1024)
+    (not-false _ header)
+    in
+    record {
+      rows = eqb-true _ _ (tests .0);
+      some = leb-true _ _ (tests .1);
+      most = leb-true _ _ (tests .2);
+      messages = eqb-true _ _ (not-false _ messages);
+      enough = ltb-false _ _ enough;
+      room = ltb-false _ _ room;
+    }

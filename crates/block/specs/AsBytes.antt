@@ -1,0 +1,38 @@
+-- Verifying with the records in a lent list of bytes, two bytes a record. Document 01, "Block and verification".
+-- Assumes nothing.
+use mathlib.Core.List.{List, [], _∷_, _++_}
+use Prim.Native.Nat.{ℕ, _*_, _/_}
+use lib.ListN.{length, drop}
+use Rattle.refusals.specs.Numbers.{Check, firstOf}
+use Rattle.published.specs.Picture.{areaSize}
+use Rattle.decoder.specs.Decoding.{cleared}
+use Rattle.block.specs.Layout.{tapeQ, rowCount}
+use Rattle.block.specs.Verification.{verdictFrom, allRecords}
+use Rattle.block.specs.Inside.{checksFor}
+use Rattle.block.specs.declared.Record.{Record}
+use Rattle.block.specs.declared.Verified.{Verified}
+use Rattle.block.specs.declared.Verified.the-variants.{Refused}
+
+-- "state 0 equal, 1 accepted but other message, 2 unreadable; and the count": the state's byte, then the count's
+unfoldable pub recordBytes : List Record → List ℕ
+recordBytes [] = []
+recordBytes (x ∷ xs) = x .state ∷ x .count ∷ recordBytes xs
+
+-- "verify checks 9, 10, 11, 6"; two bytes are one record
+unfoldable pub byteChecks : List ℕ → List ℕ → List ℕ → List ℕ → List Check
+byteChecks block payload records work = checksFor block payload (length records / 2) (length work)
+
+unfoldable pub verifyBytesAnswer : List ℕ → List ℕ → List ℕ → List ℕ → Verified
+verifyBytesAnswer block payload records work =
+    firstOf (byteChecks block payload records work) Refused (verdictFrom 0 0 (allRecords block payload))
+
+-- "Records past R stay."
+unfoldable pub verifyBytesRecords : List ℕ → List ℕ → List ℕ → List ℕ → List ℕ
+verifyBytesRecords block payload records work =
+    firstOf (byteChecks block payload records work) (λ why. records)
+    (recordBytes (allRecords block payload) ++ drop (2 * rowCount block) records)
+
+-- "ends with its part of the work area all zero; so does verifying"
+unfoldable pub verifyBytesWork : List ℕ → List ℕ → List ℕ → List ℕ → List ℕ
+verifyBytesWork block payload records work =
+    firstOf (byteChecks block payload records work) (λ why. work) (cleared (areaSize tapeQ) work)

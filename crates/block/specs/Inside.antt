@@ -1,0 +1,63 @@
+-- What the functions inside verifying answer: the record of a row's own bytes, the checks by how much is lent, and the
+-- verdict before the first row and after each. Document 01, "Block and verification".
+-- Assumes nothing.
+use mathlib.Core.Bool.{true, false, not}
+use mathlib.Core.List.{List, [], _∷_}
+use Prim.Native.Nat.{ℕ, _+_, _*_}
+use lib.Dec.{eqb, ltb}
+use lib.ListN.{length}
+use Rattle.refusals.specs.declared.Refusal.the-variants.{ShortWork, BadBlock, WrongPayload, FewRecords}
+use Rattle.refusals.specs.Numbers.{Check, _if_, firstOf}
+use Rattle.published.specs.Picture.{areaSize}
+use Rattle.decoder.specs.Decoding.{voted, decoded}
+use Rattle.block.specs.Layout.{tapeQ, tapeU, rowLength, messageLength, rowCount, isBlock, unpacked}
+use Rattle.block.specs.Verification.{outcome, sameList}
+use Rattle.block.specs.declared.Record.{Record}
+use Rattle.block.specs.declared.Verified.{Verified}
+use Rattle.block.specs.declared.Verified.the-variants.{Copied, Differs, Unreadable, Refused}
+
+-- "for each row a row's answer is taken apart first": the record of a row's 32 bytes and its payload's 20, read where they
+-- stand
+unfoldable pub packedRecord : List ℕ → List ℕ → Record
+packedRecord row original =
+    let symbols = unpacked row rowLength in
+    outcome (decoded tapeQ tapeU symbols) (sameList (voted tapeQ tapeU symbols) (unpacked original messageLength))
+
+-- "verify checks 9, 10, 11, 6", where so many records and so many places of work are lent
+unfoldable pub checksFor : List ℕ → List ℕ → ℕ → ℕ → List Check
+checksFor block payload records work =
+    (BadBlock if not (isBlock block))
+    ∷ (WrongPayload if not (eqb (length payload) (20 * rowCount block)))
+    ∷ (FewRecords if ltb records (rowCount block))
+    ∷ (ShortWork if ltb work (areaSize tapeQ))
+    ∷ []
+
+-- "The first that holds is given": the verdict before any row is read
+unfoldable pub verdictBefore : List ℕ → List ℕ → ℕ → ℕ → Verified
+verdictBefore block payload records work = firstOf (checksFor block payload records work) Refused (Copied 0)
+
+-- "All rows are recorded", and none after a refusal
+unfoldable pub rowsToRead : Verified → ℕ → ℕ
+rowsToRead (Copied total) rows = rows
+rowsToRead (Differs r) rows = 0
+rowsToRead (Unreadable r) rows = 0
+rowsToRead (Refused why) rows = 0
+
+-- "The answer names the first row not in state 0 as Differs or Unreadable; if there is none, Copied with the sum of
+-- counts": the verdict after row r too
+unfoldable pub nextVerdict : Verified → ℕ → Record → Verified
+nextVerdict (Copied total) r x =
+    elim (eqb (x .state) 0) [
+      | true ↦ Copied (total + x .count)
+      | false ↦ elim (eqb (x .state) 1) [ true ↦ Differs r | false ↦ Unreadable r ]
+    ]
+nextVerdict (Differs i) r x = Differs i
+nextVerdict (Unreadable i) r x = Unreadable i
+nextVerdict (Refused why) r x = Refused why
+
+-- the sum of counts so far
+unfoldable pub totalOf : Verified → ℕ
+totalOf (Copied total) = total
+totalOf (Differs r) = 0
+totalOf (Unreadable r) = 0
+totalOf (Refused why) = 0
