@@ -22,7 +22,7 @@ front-length l at text fits =
     length-append (take at l) text ∙ ap (λ (k : ℕ). k + length text) (length-take-le at l (omega arith))
 
 -- a text leaves the length
-pub written-length : (l : List ℕ) (at : ℕ) (text : List ℕ) → at + length text ≤ length l → length (written l at text) ≡ length l
+written-length : (l : List ℕ) (at : ℕ) (text : List ℕ) → at + length text ≤ length l → length (written l at text) ≡ length l
 unfolding written
 written-length l at text fits =
     ap length (sym (append-assoc (take at l) text (drop (at + length text) l)))

@@ -1,34 +1,35 @@
 -- How long the printed lines are: the whole text always fits into 4,096 bytes.
 -- Assumes nothing.
-use mathlib.Core.Path.{_≡_, refl, _∙_}
+use mathlib.Core.Path.{_≡_, refl}
 use mathlib.Core.Logic.{⊎-elim}
 use mathlib.Core.Bool.{Bool, true, false}
-use mathlib.Core.List.{List, []}
+use mathlib.Core.List.{List, [], _∷_}
 use Prim.Native.Nat.{ℕ, zero, suc, _+_, _*_, _-_, _/_, _≤_, _<_}
 use native.Mathlib.Omega.{arith}
 use borrow.Author.Tests.{leb-true}
 use lib.Dec.{leb}
-use lib.ListN.{length, getD, length-append, length-map}
+use lib.ListN.{length, getD, length-append}
 use Rattle.lines.specs.Text.{ascii, digits, spaced}
 use Rattle.lines.proofs.Digits.{length-digits}
 use Rattle.refusals.specs.declared.Refusal.{Refusal}
 use Rattle.refusals.specs.declared.Refusal.the-variants.{UnknownQ, NoCode, TooManySteps, WrongLength, NoSymbol, ShortWork, ShortOutput, BeyondReach, BadBlock, WrongPayload, FewRecords}
 use Rattle.refusals.specs.Numbers.{refusalNumber}
 use Rattle.refusals.proofs.Checks.{Refuses, Passes, refused, passed, decideChecks}
-use Rattle.symbols.specs.Rule.{Known, symbols, number}
-use Rattle.curve.specs.Codes.{pointCount, isCode, dimension, nongaps, reach}
+use Rattle.symbols.specs.Rule.{Known, symbols}
+use Rattle.curve.specs.Codes.{pointCount, isCode, reach}
 use Rattle.curve.proofs.CodeLaws.{code-below, dimension-le}
 use Rattle.published.specs.Start.{startWeight, stepCount}
 use Rattle.published.specs.Pairing.{isVoted}
-use Rattle.published.specs.Steps.{State, messageOf}
-use Rattle.steps.specs.Stop.{stateAfter, votesAfter}
+use Rattle.published.specs.Steps.{State}
+use Rattle.steps.specs.Stop.{stateAfter}
 use Rattle.decoder.specs.declared.Decoded.{Decoded}
 use Rattle.decoder.specs.declared.Decoded.the-variants.{Accepted, Refused}
 use Rattle.decoder.specs.Decoding.{countOf, judgement, voted, decoded}
-use Rattle.trace.specs.Request.{Said, asks, nothing, reading}
+use Rattle.steps.proofs.Sizes.{sizes}
+use Rattle.trace.specs.Request.{line, Said, asks, nothing, reading}
 use Rattle.trace.specs.Trace.{refuseLine, acceptLine, voteText, voteAt, degrees, stepLine, stepLines, lastLine, rowLines, traceChecks, answer, answerTo, traceText}
 use Rattle.trace.proofs.Written.{length-first, length-spaced}
-use Rattle.trace.proofs.Small.{few-of, numbers-small, degrees-small, length-degrees, vote-small}
+use Rattle.trace.proofs.Small.{points-few, degrees-small, length-degrees, vote-small, length-voted, voted-small}
 use Rattle.trace.proofs.Checked.{row-passes}
 
 -- the text of a vote takes four bytes at most
@@ -49,7 +50,7 @@ length-step q u s known small state =
       length-vote (isVoted q u s) (voteAt q s state) (vote-small q s known state),
       length-spaced d (degrees-small q known (state .polys)),
       length-degrees q (state .polys),
-      few-of q known .few,
+      sizes q known .few,
     ))
 
 -- and so do those of the first steps each
@@ -63,7 +64,7 @@ length-steps q u row (suc t) known =
       arith,
       length-append (stepLines q u row t) (stepLine q u s state),
       length-steps q u row t known,
-      length-step q u s known (omega (arith, few-of q known .start)) state,
+      length-step q u s known (omega (arith, sizes q known .start)) state,
     )
 
 -- a refusal's line takes eleven bytes at most
@@ -90,17 +91,6 @@ length-accept : (count : ℕ) (message : List ℕ) → count < 1000 → ((i : �
 unfolding acceptLine ascii
 length-accept count message small all = simp length-append (omega (arith, length-digits 2 count small, length-spaced message all))
 
--- a voted message has k small numbers
-length-voted : (q u : ℕ) (row : List ℕ) → length (voted q u row) ≡ dimension q u
-unfolding voted votesAfter messageOf dimension
-length-voted q u row =
-    length-map (messageOf (symbols q) q u (stateAfter q u row (stepCount q) .votes)) (number q)
-    ∙ length-map (nongaps q u) (λ s. getD (stateAfter q u row (stepCount q) .votes) s (symbols q .𝟘))
-
-voted-small : (q u : ℕ) (row : List ℕ) → Known q → (i : ℕ) → getD (voted q u row) i 0 < 1000
-unfolding voted votesAfter
-voted-small q u row known i = numbers-small q known (messageOf (symbols q) q u (stateAfter q u row (stepCount q) .votes)) i
-
 -- the last line takes 269 bytes at most
 pub length-last : (q u : ℕ) (row : List ℕ) → Known q → isCode q u ≡ true → length (lastLine (decoded q u row) (voted q u row)) ≤ 269
 unfolding decoded judgement
@@ -112,29 +102,32 @@ length-last q u row known code = by-test (leb (countOf q u (voted q u row) row) 
     by-test : (t : Bool) → leb count (reach q u) ≡ t
         → length (lastLine (elim t as (λ _. Decoded) [ true ↦ Accepted count | false ↦ Refused BeyondReach ]) (voted q u row)) ≤ 269
     by-test true e =
-        let few = few-of q known in
         let within : count ≤ (pointCount q - u - 1) / 2 = unfold reach in leb-true count (reach q u) e in
         unfold lastLine in
         omega (
           arith,
-          length-accept count (voted q u row) (omega (arith, few .points)) (voted-small q u row known),
+          length-accept count (voted q u row) (omega (arith, points-few q known)) (voted-small q u row known),
           length-voted q u row,
           dimension-le q u code,
-          few .points,
+          points-few q known,
         )
     by-test false e = unfold lastLine in omega (arith, length-refuse BeyondReach)
+
+-- the first line takes eight bytes at most
+pub length-code-line : (q u : ℕ) → Known q → isCode q u ≡ true → length (line (q ∷ u ∷ [])) ≤ 8
+length-code-line q u known code =
+    length-first q u (omega (arith, sizes q known .few)) (omega (arith, code-below q u code, points-few q known))
 
 -- what is printed for a full row of symbols fits, and so does what is printed for any text
 length-row-lines : (q u : ℕ) (row : List ℕ) → Known q → isCode q u ≡ true → length (rowLines q u row) ≤ 4096
 unfolding rowLines stepCount
 length-row-lines q u row known code =
-    let few = few-of q known in
     simp length-append
     (omega (
       arith,
-      length-first q u (omega (arith, few .few)) (omega (arith, code-below q u code, few .points)),
+      length-code-line q u known code,
       length-steps q u row (startWeight q + 1) known,
-      few .start,
+      sizes q known .start,
       length-last q u row known code,
     ))
 

@@ -1,7 +1,9 @@
-pub mod Numbers
-pub mod Written
+mod Numbers
+mod Written
 pub mod Meaning
-pub mod Small
-pub mod Checked
-pub mod Lengths
+mod Small
+mod Checked
+mod Lengths
+mod LeadingRows
+mod Walked
 pub mod Example

@@ -119,7 +119,7 @@ read-taken text = by-test (isTaken text q u row) refl
     by-test false e = tt
 
 -- a text says what it is taken as
-reading-means : (text : List ℕ) → Means text (reading text)
+pub reading-means : (text : List ℕ) → Means text (reading text)
 unfolding SaidTaken
 reading-means text =
     record {
@@ -127,9 +127,10 @@ reading-means text =
       only = reads-taken text;
     }
 
--- an answer that is the reading says what the text is taken as
-pub answers : (text : List ℕ) {said : Said} → said ≡ reading text → (said ≡ reading text) × Means text said
-answers text e = (e, subst (Means text) (sym e) (reading-means text))
+-- an answer that is the reading says what the text is taken as, and its count is within the row
+pub answers : (text : List ℕ) {said : Said} {count size : ℕ} → said ≡ reading text → count ≤ size
+    → (said ≡ reading text) × (Means text said × (count ≤ size))
+answers text e within = (e, (subst (Means text) (sym e) (reading-means text), within))
 
 -- a text that is too long says nothing
 pub reads-long : (text : List ℕ) → 4096 < length text → nothing ≡ reading text

@@ -13,7 +13,8 @@ use lib.ListN.{length, getD, take, drop, set, drop-of-length-le}
 use lib.Seq.{drop-cons, take-suc-set}
 use Rattle.lines.specs.Text.{digits, spaced}
 use Rattle.lines.proofs.Digits.{digits-small, digits-large}
-use Rattle.trace.specs.Request.{line, request, endsNumber, grown, numbersFrom, asByte, FoundAt, FoundIn}
+use Rattle.trace.specs.Request.{line, request, endsNumber, grown, numbersFrom, asByte}
+use Rattle.trace.specs.Reader.{FoundAt, FoundIn}
 use Rattle.trace.specs.declared.request.Found.{Found}
 use Rattle.trace.specs.declared.request.Found.the-variants.{Number, End}
 

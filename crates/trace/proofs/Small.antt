@@ -1,36 +1,29 @@
 -- How large the numbers of the lines are: weights, votes, degrees and message symbols are below a thousand.
 -- Assumes nothing.
-use mathlib.Core.Path.{_≡_, sym, _∙_, subst}
-use mathlib.Core.Logic.{⊎-elim}
+use mathlib.Core.Path.{_≡_, _∙_}
 use mathlib.Core.Bool.{Bool, true, false}
 use mathlib.Core.List.{List, [], _∷_, _++_, map}
 use Prim.Native.Nat.{ℕ, zero, suc, _+_, _≤_, _<_}
 use native.Mathlib.Omega.{arith}
 use lib.Dec.{eqb}
-use lib.ListN.{length, getD, length-append}
+use lib.ListN.{length, getD, length-append, length-map}
 use Rattle.lists.specs.Tables.{from, tab}
 use Rattle.lists.proofs.Tables.{length-tab}
 use Rattle.symbols.specs.Rule.{Known, Below, Sym, symbols, number, symbol}
 use Rattle.symbols.proofs.Bytes.{size-known, square-small}
-use Rattle.curve.specs.Codes.{pointCount}
-use Rattle.published.specs.Start.{Polynomials, width, startWeight}
+use Rattle.curve.specs.Codes.{pointCount, dimension, nongaps}
+use Rattle.published.specs.Start.{Polynomials, width, stepCount}
 use Rattle.published.specs.Pairing.{degree, degreeOf, degreeF, degreeG}
-use Rattle.published.specs.Steps.{State}
+use Rattle.published.specs.Steps.{State, messageOf}
+use Rattle.steps.proofs.Sizes.{sizes}
 use Rattle.trace.specs.Trace.{voteAt, degrees}
+use Rattle.steps.specs.Stop.{stateAfter, votesAfter}
+use Rattle.decoder.specs.Decoding.{voted}
 
--- how large the numbers of a known q are
-pub record Few (q : ℕ) : Type 0 where
-  pub few : q ≤ 4
-  pub narrow : width q ≤ 23
-  pub start : startWeight q ≤ 75
-  pub points : pointCount q ≤ 64
-
-pub few-of : (q : ℕ) → Known q → Few q
-unfolding Known width startWeight pointCount
-few-of q =
-    ⊎-elim
-    (λ (e : q ≡ 2). subst Few (sym e) (record { few = omega arith; narrow = omega arith; start = omega arith; points = omega arith }))
-    (λ (e : q ≡ 4). subst Few (sym e) (record { few = omega arith; narrow = omega arith; start = omega arith; points = omega arith }))
+-- there are at most 64 points
+pub points-few : (q : ℕ) → Known q → pointCount q ≤ 64
+unfolding pointCount
+points-few q known = sizes q known .cube-few
 
 -- a symbol's number is small
 number-small : (q : ℕ) → Known q → (a : Sym q) → number q a < 1000
@@ -73,7 +66,7 @@ degree-small : (q : ℕ) → Known q → (S : Polynomials (symbols q) q) (p part
 unfolding degreeOf
 degree-small q known S p part j =
     let most : degreeOf (symbols q) q S p part j ≤ width q = degree-le _ (width q) in
-    omega (arith, few-of q known .narrow)
+    omega (arith, sizes q known .narrow)
 
 pub degrees-small : (q : ℕ) → Known q → (S : Polynomials (symbols q) q) (k : ℕ) → getD (degrees q S) k 0 < 1000
 unfolding degrees tab degreeF degreeG
@@ -86,3 +79,14 @@ degrees-small q known S =
 pub vote-small : (q s : ℕ) → Known q → (state : State (symbols q) q) → voteAt q s state < 1000
 unfolding voteAt
 vote-small q s known state = number-small q known (getD (state .votes) s (symbol q 0))
+
+-- a voted message has k small numbers
+pub length-voted : (q u : ℕ) (row : List ℕ) → length (voted q u row) ≡ dimension q u
+unfolding voted votesAfter messageOf dimension
+length-voted q u row =
+    length-map (messageOf (symbols q) q u (stateAfter q u row (stepCount q) .votes)) (number q)
+    ∙ length-map (nongaps q u) (λ s. getD (stateAfter q u row (stepCount q) .votes) s (symbols q .𝟘))
+
+pub voted-small : (q u : ℕ) (row : List ℕ) → Known q → (i : ℕ) → getD (voted q u row) i 0 < 1000
+unfolding voted votesAfter
+voted-small q u row known i = numbers-small q known (messageOf (symbols q) q u (stateAfter q u row (stepCount q) .votes)) i

@@ -6,12 +6,8 @@ use mathlib.Core.Bool.{Bool, true, false, _&&_, _||_}
 use mathlib.Core.List.{List, [], _∷_, _++_, map}
 use Prim.Native.Nat.{ℕ, _+_, _*_, _-_, _%_, _≤_, _<_}
 use lib.Dec.{leb, ltb, eqb}
-use lib.ListN.{length, getD, take, drop}
+use lib.ListN.{length, getD, drop}
 use Rattle.lines.specs.Text.{digits, spaced}
-use Rattle.trace.specs.declared.request.Found.{Found}
-use Rattle.trace.specs.declared.request.Found.the-variants.{Number, End}
-use Rattle.trace.specs.declared.request.Reading.{Reading}
-use Rattle.trace.specs.declared.request.Reading.the-variants.{Asks, Nothing}
 
 -- a line: the numbers with single spaces between them, ended by a newline
 unfoldable pub line : List ℕ → List ℕ
@@ -91,19 +87,3 @@ saidBy text numbers =
 
 unfoldable pub reading : List ℕ → Said
 reading text = saidBy text (numbersFrom 0 text)
-
--- the first number that ends in a text from a place on: what was read, and the text after it has the numbers that are left
-pub record FoundAt (text : List ℕ) (from value next : ℕ) : Type 0 where
-  pub later : from < next
-  pub within : next ≤ length text
-  pub small : value < 1000
-  pub numbers : numbersFrom 0 (drop from text) ≡ value ∷ numbersFrom 0 (drop next text)
-
-unfoldable pub FoundIn : List ℕ → ℕ → Found → Type 0
-FoundIn text from (Number value next) = FoundAt text from value next
-FoundIn text from End = numbersFrom 0 (drop from text) ≡ []
-
--- what the reader answers, its row in the first places of a list
-unfoldable pub saying : Reading → List ℕ → Said
-saying (Asks q u count) row = asks q u (take count row)
-saying Nothing row = nothing

@@ -9,7 +9,8 @@ ghost use mathlib.Core.Path.{_≡_};
 ghost use Prim.Native.Nat.{_+_, _*_, _-_, _≤_, _<_};
 ghost use lib.ListN.{length, take, drop};
 ghost use Rattle.lines.specs.Text.{Wrote};
-ghost use Rattle.trace.specs.Request.{line, request, endsNumber, numbersFrom, asByte, sameText, reading, saying, FoundIn, Means};
+ghost use Rattle.trace.specs.Request.{line, request, endsNumber, numbersFrom, asByte, sameText, reading, Means};
+ghost use Rattle.trace.specs.Reader.{saying, countIn, FoundIn};
 ghost use Rattle.trace.specs.Request.{grown as Request·grown};
 
 // What a text asks: q, u and how many numbers the row has; or nothing that is taken.
@@ -50,6 +51,7 @@ fn grown(value: usize, byte: u8) -> usize
     (value * 10 + digit_of(byte)) % 1000
 }
 
+// The number that ends first from a place on.
 fn number_at(text: &[u8], from: usize) -> Found
     ensures { λ r. ⌜ FoundIn (now (text .entry)) from r ⌝ }
 {
@@ -126,6 +128,7 @@ pub fn read_request(text: &[u8], row: &mut [u8]) -> Reading
     requires { ⌜ length (now row) ≡ 4096 ⌝ }
     ensures { λ r. ⌜ saying r (now (row .exit)) ≡ reading (now (text .entry)) ⌝ }
     ensures { λ r. ⌜ Means (now (text .entry)) (saying r (now (row .exit))) ⌝ }
+    ensures { λ r. ⌜ countIn r ≤ length (now (row .exit)) ⌝ }
 {
     if text.len() > 4096 {
         return Reading::Nothing;

@@ -7,7 +7,8 @@ use native.Mathlib.Omega.{arith}
 use borrow.Author.Needs.{needs}
 use mathlib.Core.Bool.{true, false}
 use lib.ListN.{length, getD, drop, drop-of-length-le}
-use Rattle.trace.specs.Request.{endsNumber, numbersFrom, FoundIn}
+use Rattle.trace.specs.Request.{endsNumber, numbersFrom}
+use Rattle.trace.specs.Reader.{FoundIn}
 use Rattle.trace.proofs.Numbers.{numbers-end-at, numbers-go-at}
 use Rattle.trace.proofs.request.number_at.Statement.{statement}
 use Rattle.trace.proofs.request.number_at.Tie as tie

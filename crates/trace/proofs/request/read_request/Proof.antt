@@ -7,7 +7,8 @@ use Prim.Native.Nat.{ℕ}
 use native.Mathlib.Omega.{arith}
 use lib.ListN.{take, drop}
 use lib.Seq.{length-take-le}
-use Rattle.trace.specs.Request.{asks, numbersFrom, ifTaken, reading, saying, FoundAt}
+use Rattle.trace.specs.Request.{asks, numbersFrom, ifTaken, reading}
+use Rattle.trace.specs.Reader.{saying, FoundAt}
 use Rattle.trace.proofs.Numbers.{found-number, found-end}
 use Rattle.trace.proofs.Meaning.{answers, reads-long, reads-none, reads-empty, reads-row}
 use borrow.Author.Needs.{needs}
@@ -46,7 +47,7 @@ returns : tie.Need-returns
 unfolding saying
 returns c =
     let text = c .before .before .before .args .text .now in
-    answers text (reads-long text (omega (arith, c .if1 .taken)))
+    answers text (reads-long text (omega (arith, c .if1 .taken))) (omega arith)
 
 number-at-requires : tie.Need-number-at-requires
 number-at-requires c κs = search needs
@@ -62,7 +63,7 @@ unfolding saying
 returns-2 c =
     let called = c .before .before in
     let text = called .before .before .before .before .args .text .now in
-    answers text (reads-none text (ap (drop 2) (found-end text 0 (c .enum-told .given .1) (called .number-at .ensures))))
+    answers text (reads-none text (ap (drop 2) (found-end text 0 (c .enum-told .given .1) (called .number-at .ensures)))) (omega arith)
 
 number-at-requires-2 : tie.Need-number-at-requires-2
 number-at-requires-2 c κs = search needs
@@ -81,7 +82,7 @@ returns-3 c =
     let text = first .before .before .before .before .before .before .before .args .text .now in
     let next = first .before .q .given .0 .1 .0 in
     let none = found-end text next (c .enum-told2 .given .1) (called .number-at2 .ensures) in
-    answers text (reads-none text (ap (drop 2) (found-q first .numbers ∙ ap (λ (l : List ℕ). first .before .q .given .0 .0 ∷ l) none)))
+    answers text (reads-none text (ap (drop 2) (found-q first .numbers ∙ ap (λ (l : List ℕ). first .before .q .given .0 .0 ∷ l) none))) (omega arith)
 
 read-row-requires : tie.Need-read-row-requires
 read-row-requires c κs = search needs
@@ -98,7 +99,7 @@ returns-4 c =
     let text = first .before .before .before .before .before .before .before .args .text .now in
     answers text (reads-empty text (first .before .q .given .0 .0) (found .before .u .given .0 .0)
     (numbersFrom 0 (drop (found .before .u .given .0 .1 .0) text)) (called .read-row .last .1 .1 .0) (called .read-row .result)
-    (numbers-read found) (c .if2 .taken) (called .read-row .ensures .1))
+    (numbers-read found) (c .if2 .taken) (called .read-row .ensures .1)) (omega arith)
 
 slice-reshare-prefix-is-text-of : tie.Need-slice-reshare-prefix-is-text-of
 slice-reshare-prefix-is-text-of c = search needs
@@ -146,14 +147,15 @@ same-length-2 c = search needs
 
 returns-5 : tie.Need-returns-5
 unfolding saying
-returns-5 c = answers _ (rw (c .if3 .taken) at (said-by (c .before)))
+returns-5 c =
+    answers _ (rw (c .if3 .taken) at (said-by (c .before))) (c .before .before .before .before .before .before .read-row .ensures .0)
 
 same-length-3 : tie.Need-same-length-3
 same-length-3 c = search needs
 
 returns-6 : tie.Need-returns-6
 unfolding saying
-returns-6 c = answers _ (rw (c .if3 .left) at (said-by (c .before)))
+returns-6 c = answers _ (rw (c .if3 .left) at (said-by (c .before))) (omega arith)
 
 pub read-request-spec : {M : Type 1} → statement M
 read-request-spec =

@@ -7,7 +7,8 @@ use Prim.Native.Nat.{_+_, _-_, _≤_, _<_}
 use native.Mathlib.Omega.{arith}
 use borrow.Author.Needs.{needs}
 use lib.ListN.{length, take, drop, length-set}
-use Rattle.trace.specs.Request.{numbersFrom, asByte, FoundAt}
+use Rattle.trace.specs.Request.{numbersFrom, asByte}
+use Rattle.trace.specs.Reader.{FoundAt}
 use Rattle.trace.proofs.Numbers.{row-more, row-whole, numbers-past, found-number, found-end}
 use Rattle.trace.proofs.request.read_row.Statement.{statement}
 use Rattle.trace.proofs.request.read_row.Tie as tie

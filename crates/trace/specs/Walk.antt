@@ -1,0 +1,30 @@
+-- What the functions that go from step to step ask of a row and of the work area.
+-- Assumes nothing.
+use mathlib.Core.Path.{_≡_}
+use mathlib.Core.Bool.{true, false, cond}
+use mathlib.Core.List.{List}
+use Prim.Native.Nat.{ℕ, _+_, _-_}
+use lib.Dec.{ltb}
+use lib.ListN.{length}
+use Rattle.symbols.specs.Rule.{Known, symbols, anyBeyond}
+use Rattle.curve.specs.Codes.{pointCount, isCode}
+use Rattle.published.specs.Steps.{State}
+use Rattle.steps.specs.Area.{Starts, cellsOf}
+use Rattle.trace.specs.Trace.{voteAt}
+
+-- a code, and a full row of its symbols: what passes the checks
+pub record Full (q u : ℕ) (row : List ℕ) : Type 0 where
+  pub known : Known q
+  pub code : isCode q u ≡ true
+  pub whole : length row ≡ pointCount q
+  pub within : anyBeyond q row ≡ false
+
+-- the polynomial that has its leading term in row r of the area: f_r in an upper row, g_(r-q) in a lower one
+unfoldable pub leader : ℕ → ℕ → ℕ
+leader q r = cond (ltb r q) (q + r) (r - q)
+
+-- an area that shows a state after step s, whose vote is this one
+pub record Shown (q s vote : ℕ) (work : List ℕ) : Type 0 where
+  pub state : State (symbols q) q
+  pub shows : Starts q work (cellsOf q (state .polys))
+  pub voted : vote ≡ voteAt q s state
