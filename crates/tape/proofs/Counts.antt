@@ -1,0 +1,66 @@
+-- The count of an acceptance is at most the reach of a known code, so it fits an integer. Assumes nothing.
+use mathlib.Core.Path.{_≡_, refl, sym, subst}
+use mathlib.Core.Logic.{_⊎_, inl, inr}
+use mathlib.Core.Bool.{Bool, true, false}
+use mathlib.Core.List.{List, _∷_}
+use Prim.Native.Nat.{ℕ, _<_, _^_}
+use native.Mathlib.Omega.{arith}
+use lib.Dec.{leb}
+use borrow.Author.Tests.{leb-true, not-false}
+use Rattle.refusals.specs.declared.Refusal.{Refusal}
+use Rattle.refusals.specs.declared.Refusal.the-variants.{BeyondReach}
+use Rattle.refusals.specs.Numbers.{Check}
+use Rattle.refusals.proofs.Checks.{Refuses, Passes, clear, refused, passed, decideChecks}
+use Rattle.symbols.specs.Rule.{isKnown, Known}
+use Rattle.symbols.proofs.Bytes.{test-known}
+use Rattle.curve.specs.Codes.{pointCount, reach}
+use Rattle.decoder.specs.declared.Decoded.the-variants.{Accepted, Refused}
+use Rattle.decoder.specs.Decoding.{countOf, judgement, voted, decoded, decodeChecks, decodeAnswer}
+use Rattle.tape.specs.Results.{CountFits}
+
+-- q is 2 or 4, so the reach is small
+reach-small : (q u : ℕ) → Known q → reach q u < 2 ^ 63
+unfolding Known reach pointCount
+reach-small q u (inl two) = subst (λ (p : ℕ). reach p u < 2 ^ 63) (sym two) (omega arith)
+reach-small q u (inr four) = subst (λ (p : ℕ). reach p u < 2 ^ 63) (sym four) (omega arith)
+
+-- a judgement accepts no count beyond the reach
+judged : (q u : ℕ) (message row : List ℕ) → reach q u < 2 ^ 63 → CountFits (judgement q u message row)
+unfolding judgement
+judged q u message row small = go (leb (countOf q u message row) (reach q u)) refl
+  where
+    go : (b : Bool) → leb (countOf q u message row) (reach q u) ≡ b → CountFits (elim b [ true ↦ Accepted (countOf q u message row) | false ↦ Refused BeyondReach ])
+    go true within = omega (arith, small, leb-true (countOf q u message row) (reach q u) within)
+    go false beyond = tt
+
+-- where no check holds, the first does not
+first-fails : {first : Check} {others : List Check} → Passes (first ∷ others) → first .holds ≡ false
+first-fails (clear fails rest) = fails
+
+module _ (q u : ℕ) (row work message corrected : List ℕ) where
+  abbrev checks : List Check
+  checks = decodeChecks q u row work message corrected
+
+  -- a refusal has no count
+  if-refused : {why : Refusal} → Refuses checks why → CountFits (decodeAnswer q u row work message corrected)
+  unfolding decodeAnswer
+  if-refused refuses = subst CountFits (sym (refused Refused (decoded q u row) refuses)) tt
+
+  -- the first check is that q is known
+  known : Passes checks → Known q
+  unfolding decodeChecks
+  known passes = test-known q (not-false (isKnown q) (first-fails passes))
+
+  -- what decoding answers after its checks
+  if-passed : Passes checks → CountFits (decodeAnswer q u row work message corrected)
+  unfolding decodeAnswer decoded
+  if-passed passes =
+      subst CountFits (sym (passed Refused (decoded q u row) passes)) (judged q u (voted q u row) row (reach-small q u (known passes)))
+
+  -- whatever decoding answers, its count fits
+  pub answer-fits : CountFits (decodeAnswer q u row work message corrected)
+  answer-fits = go (decideChecks checks)
+    where
+      go : ((why : Refusal) × Refuses checks why) ⊎ Passes checks → CountFits (decodeAnswer q u row work message corrected)
+      go (inl refuses) = if-refused (refuses .1)
+      go (inr passes) = if-passed passes

@@ -1,0 +1,51 @@
+-- What each call answers to a caller in C: one integer, and for verifying a number beside it. include/orbitspinet.h says the
+-- same in words. Assumes nothing.
+use Prim.Native.Nat.{ℕ, _<_, _^_}
+use lib.IntN.{ℤ, pos, negℤ}
+use Rattle.refusals.specs.declared.Refusal.{Refusal}
+use Rattle.refusals.specs.Numbers.{refusalNumber}
+use Rattle.encoder.specs.declared.Encoded.{Encoded}
+use Rattle.encoder.specs.declared.Encoded.the-variants.{Done, Refused}
+use Rattle.steps.specs.declared.Stopped.{Stopped}
+use Rattle.steps.specs.declared.Stopped.the-variants.{Done as Stepped, Refused as Halted}
+use Rattle.decoder.specs.declared.Decoded.{Decoded}
+use Rattle.decoder.specs.declared.Decoded.the-variants.{Accepted, Refused as Declined}
+use Rattle.block.specs.declared.Verified.{Verified}
+use Rattle.block.specs.declared.Verified.the-variants.{Copied, Differs, Unreadable, Refused as Rejected}
+
+-- a refusal is its number with a minus
+abbrev pub refusalResult : Refusal → ℤ
+refusalResult why = negℤ (pos (refusalNumber why))
+
+-- encoding and the stop service answer only that they are done
+abbrev pub encodeResult : Encoded → ℤ
+encodeResult Done = pos 0
+encodeResult (Refused why) = refusalResult why
+
+abbrev pub stopResult : Stopped → ℤ
+stopResult Stepped = pos 0
+stopResult (Halted why) = refusalResult why
+
+-- an acceptance is its count
+abbrev pub decodeResult : Decoded → ℤ
+decodeResult (Accepted count) = pos count
+decodeResult (Declined why) = refusalResult why
+
+-- a verdict is its number among the verdicts
+abbrev pub verifyResult : Verified → ℤ
+verifyResult (Copied total) = pos 0
+verifyResult (Differs row) = pos 1
+verifyResult (Unreadable row) = pos 2
+verifyResult (Rejected why) = refusalResult why
+
+-- the sum of the counts, or the first row not in state 0; a refusal leaves what was there
+abbrev pub verifyAt : Verified → ℕ → ℕ
+verifyAt (Copied total) old = total
+verifyAt (Differs row) old = row
+verifyAt (Unreadable row) old = row
+verifyAt (Rejected why) old = old
+
+-- the count of an acceptance is a number that the integer can hold
+abbrev pub CountFits : Decoded → Type 0
+CountFits (Accepted count) = count < 2 ^ 63
+CountFits (Declined why) = Unit {0}
