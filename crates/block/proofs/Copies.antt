@@ -2,7 +2,7 @@
 -- Assumes nothing.
 use mathlib.Core.Path.{_≡_, refl, sym, ap, _∙_}
 use mathlib.Core.Logic.{⊎-elim}
-use mathlib.Core.Bool.{Bool, true, false}
+use mathlib.Core.Bool.{Bool, true, false, false≢true, and-eq-true-iff}
 use mathlib.Core.List.{List, [], _∷_}
 use Prim.Native.Nat.{ℕ, zero, suc, _+_, _/_, _≤_, _<_, zero-le}
 use native.Mathlib.Omega.{arith}
@@ -26,7 +26,6 @@ use Rattle.block.specs.declared.Record.{Record}
 use Rattle.block.specs.declared.Verified.{Verified}
 use Rattle.block.specs.declared.Verified.the-variants.{Copied, Refused}
 use Rattle.block.proofs.Verdicts.{byState}
-use Rattle.block.proofs.Start.{both}
 use Rattle.block.proofs.Outcomes.{accepted-within}
 
 -- lists that compare as the same are the same
@@ -36,7 +35,7 @@ same-lists [] [] same = refl
 same-lists [] (y ∷ ys) same = let z : _≡_ {A = ℕ} 0 1 = cc in absurd (omega arith)
 same-lists (x ∷ xs) [] same = let z : _≡_ {A = ℕ} 0 1 = cc in absurd (omega arith)
 same-lists (x ∷ xs) (y ∷ ys) same =
-    let halves = both (eqb x y) (sameList xs ys) same in
+    let halves = and-eq-true-iff (eqb x y) (sameList xs ys) .0 same in
     rw (eqb-true x y (halves .0), same-lists xs ys (halves .1))
 
 -- only an acceptance of the same message has state 0

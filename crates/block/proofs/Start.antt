@@ -1,7 +1,7 @@
 -- The verdict before the first row, check by check; and what is known where no check holds.
 -- Assumes nothing.
 use mathlib.Core.Path.{_≡_, refl, sym, ap}
-use mathlib.Core.Bool.{Bool, true, false, not, _&&_}
+use mathlib.Core.Bool.{Bool, true, false, not, _&&_, and-eq-true-iff}
 use mathlib.Core.List.{List}
 use Prim.Native.Nat.{ℕ, _+_, _*_, _≤_, _<_}
 use native.Mathlib.Omega.{arith}
@@ -63,17 +63,14 @@ pub record Fit (block payload : List ℕ) (records work : ℕ) : Type 0 where
   pub enough : rowCount block ≤ records
   pub room : areaSize tapeQ ≤ work
 
--- both halves of a conjunction hold
-pub both : (a b : Bool) → (a && b) ≡ true → (a ≡ true) × (b ≡ true)
-both true b is = (refl, is)
-both false b is = let z : _≡_ {A = ℕ} 0 1 = cc in absurd (omega arith)
-
 -- the first and the last two of six
 of-six : (a b c d e f : Bool) → (a && (b && (c && (d && (e && f))))) ≡ true → (a ≡ true) × (e ≡ true) × (f ≡ true)
 of-six a b c d e f is =
-    let one = both a (b && (c && (d && (e && f)))) is in
-    let three = both c (d && (e && f)) (both b (c && (d && (e && f))) (one .1) .1) in
-    let five = both e f (both d (e && f) (three .1) .1) in
+    let one = and-eq-true-iff a (b && (c && (d && (e && f)))) .0 is in
+    let two = and-eq-true-iff b (c && (d && (e && f))) .0 (one .1) in
+    let three = and-eq-true-iff c (d && (e && f)) .0 (two .1) in
+    let four = and-eq-true-iff d (e && f) .0 (three .1) in
+    let five = and-eq-true-iff e f .0 (four .1) in
     (one .0, five .0, five .1)
 
 -- no check holds

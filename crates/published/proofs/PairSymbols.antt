@@ -1,7 +1,7 @@
 -- The symbols of a pair and the vote: w_i and μ_i by the sign of k and the kind of the step.
 use mathlib.Core.Path.{_≡_, ap}
 use mathlib.Core.Logic.{_⊎_, inl, inr}
-use mathlib.Core.Bool.{true, false, cond}
+use mathlib.Core.Bool.{true, false, cond, and-eq-true-iff}
 use mathlib.Core.List.{List}
 use Prim.Native.Nat.{ℕ, _*_, _-_, _≤_}
 use lib.Dec.{leb}
@@ -12,7 +12,7 @@ use Rattle.algebra.specs.Weights.{nongap}
 use Rattle.published.specs.Start.{Polynomials, lower, f, coefficient}
 use Rattle.published.specs.Pairing.{Pairing, pairing, leadF, looked, isNegative, positivePart}
 use Rattle.published.specs.Pairing.{isVoted, score, best, vote}
-use Rattle.published.proofs.Tests.{decided, and-left, and-right}
+use Rattle.published.proofs.Tests.{decided}
 
 module _ (𝓢 : Symbols) (q : ℕ) (u s : ℕ) where
   infixl 70 _⊗_
@@ -21,7 +21,7 @@ module _ (𝓢 : Symbols) (q : ℕ) (u s : ℕ) where
   -- a voted weight is a non-gap
   pub voted-nongap : isVoted q u s ≡ true → nongap q s ≡ true
   unfolding isVoted
-  voted-nongap = and-right (leb s u) (nongap q s)
+  voted-nongap e = and-eq-true-iff (leb s u) (nongap q s) .0 e .1
 
   -- an unvoted step has the vote 0
   pub unvoted : (Ps : List (Pairing 𝓢 q)) → isVoted q u s ≡ false → vote 𝓢 q u s Ps ≡ 𝟘
@@ -33,7 +33,7 @@ module _ (𝓢 : Symbols) (q : ℕ) (u s : ℕ) where
   unfolding isVoted
   vote-placed Ps =
       decided (isVoted q u s)
-      (λ e. inr (leb-true s u (and-left (leb s u) (nongap q s) e), voted-nongap e)) (λ e. inl (unvoted Ps e))
+      (λ e. inr (leb-true s u (and-eq-true-iff (leb s u) (nongap q s) .0 e .0), voted-nongap e)) (λ e. inl (unvoted Ps e))
 
   module _ (S : Polynomials 𝓢 q) (i : ℕ) where
     -- the numbers of pair i

@@ -1,7 +1,7 @@
 -- What a text is read as is what it is taken as: the two readings of a text agree.
 -- Assumes nothing.
 use mathlib.Core.Path.{_≡_, refl, ap, ap₂, sym, _∙_, subst}
-use mathlib.Core.Bool.{Bool, true, false, false≢true, _&&_, and-false}
+use mathlib.Core.Bool.{Bool, true, false, false≢true, _&&_, and-false, and-eq-true-iff}
 use mathlib.Core.List.{List, [], _∷_, map}
 use Prim.Native.Nat.{ℕ, zero, suc, _≤_, _<_}
 use native.Mathlib.Nat.{mod-eq-of-lt}
@@ -12,11 +12,6 @@ use lib.ListN.{length, getD, take, drop}
 use Rattle.trace.specs.Request.{request, Taken, Said, asks, nothing, Means, numbersFrom, asByte, sameText, isTaken, ifTaken, saidBy, reading}
 use Rattle.trace.proofs.Numbers.{reads-request, numbers-small}
 
--- two tests pass where both do
-both : (a b : Bool) → (a && b) ≡ true → (a ≡ true) × (b ≡ true)
-both true b h = (refl, h)
-both false b h = absurd (false≢true h)
-
 -- texts that pass the test are the same, and the same text passes it
 same-text : (a b : List ℕ) → sameText a b ≡ true → a ≡ b
 unfolding sameText
@@ -24,7 +19,7 @@ same-text [] [] h = refl
 same-text [] (y ∷ b) h = absurd (false≢true h)
 same-text (x ∷ a) [] h = absurd (false≢true h)
 same-text (x ∷ a) (y ∷ b) h =
-    let t = both (eqb x y) (sameText a b) h in
+    let t = and-eq-true-iff (eqb x y) (sameText a b) .0 h in
     ap₂ _∷_ (eqb-true x y (t .0)) (same-text a b (t .1))
 
 text-same : (a : List ℕ) → sameText a a ≡ true
@@ -79,8 +74,8 @@ reads-taken text q u row t =
 test-taken : (text : List ℕ) (q u : ℕ) (row : List ℕ) → q < 1000 → u < 1000 → ((i : ℕ) → getD row i 0 ≤ 255) → isTaken text q u row ≡ true → Taken text q u row
 unfolding isTaken
 test-taken text q u row hq hu bytes test =
-    let short = both (leb (length text) 4096) (ltb 0 (length row) && sameText text (request q u row)) test in
-    let some = both (ltb 0 (length row)) (sameText text (request q u row)) (short .1) in
+    let short = and-eq-true-iff (leb (length text) 4096) (ltb 0 (length row) && sameText text (request q u row)) .0 test in
+    let some = and-eq-true-iff (ltb 0 (length row)) (sameText text (request q u row)) .0 (short .1) in
     record {
       says = same-text text (request q u row) (some .1);
       some = ltb-true 0 (length row) (some .0);

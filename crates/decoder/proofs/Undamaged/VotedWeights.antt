@@ -1,17 +1,12 @@
 -- Which weights are voted: the non-gaps up to u.
 -- Assumes nothing.
-use mathlib.Core.Path.{_≡_, refl, ap, _∙_}
-use mathlib.Core.Bool.{Bool, true, false, not, _&&_, and-false, false≢true}
+use mathlib.Core.Path.{_≡_, ap, _∙_}
+use mathlib.Core.Bool.{true, false, not, _&&_, and-false, and-eq-true-iff}
 use Prim.Native.Nat.{ℕ, _≤_, _<_}
 use lib.Dec.{leb}
 use borrow.Author.Tests.{leb-true, le-leb, lt-leb}
 use Rattle.algebra.specs.Weights.{gap, nongap}
 use Rattle.published.specs.Pairing.{isVoted}
-
--- both tests of an `and` hold
-pub both : (a b : Bool) → a && b ≡ true → (a ≡ true) × (b ≡ true)
-both true b t = (refl, t)
-both false b t = absurd (false≢true t)
 
 module _ (q u s : ℕ) where
   -- a weight above u is not voted
@@ -32,9 +27,9 @@ module _ (q u s : ℕ) where
   -- a voted weight is at most u
   pub voted-below : isVoted q u s ≡ true → s ≤ u
   unfolding isVoted
-  voted-below t = leb-true s u (both (leb s u) (nongap q s) t .0)
+  voted-below t = leb-true s u (and-eq-true-iff (leb s u) (nongap q s) .0 t .0)
 
   -- and no gap
   pub voted-nongap : isVoted q u s ≡ true → nongap q s ≡ true
   unfolding isVoted
-  voted-nongap t = both (leb s u) (nongap q s) t .1
+  voted-nongap t = and-eq-true-iff (leb s u) (nongap q s) .0 t .1
