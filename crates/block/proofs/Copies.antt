@@ -32,8 +32,8 @@ use Rattle.block.proofs.Outcomes.{accepted-within}
 same-lists : (xs ys : List ℕ) → sameList xs ys ≡ true → xs ≡ ys
 unfolding sameList
 same-lists [] [] same = refl
-same-lists [] (y ∷ ys) same = let z : _≡_ {A = ℕ} 0 1 = cc in absurd (omega arith)
-same-lists (x ∷ xs) [] same = let z : _≡_ {A = ℕ} 0 1 = cc in absurd (omega arith)
+same-lists [] (y ∷ ys) same = absurd (false≢true same)
+same-lists (x ∷ xs) [] same = absurd (false≢true same)
 same-lists (x ∷ xs) (y ∷ ys) same =
     let halves = and-eq-true-iff (eqb x y) (sameList xs ys) .0 same in
     rw (eqb-true x y (halves .0), same-lists xs ys (halves .1))

@@ -1,7 +1,7 @@
 -- The outcome of one row: what an acceptance says, and the record of a row's bytes case by case.
 -- Assumes nothing.
 use mathlib.Core.Path.{_≡_, refl, sym, _∙_}
-use mathlib.Core.Bool.{Bool, true, false}
+use mathlib.Core.Bool.{Bool, true, false, true≢false, false≢true}
 use mathlib.Core.List.{List}
 use Prim.Native.Nat.{ℕ, _+_, _*_, _≤_, zero-le}
 use native.Mathlib.Omega.{arith}
@@ -55,13 +55,13 @@ outcome-refused (Refused why) equal tag = refl
 outcome-equal : (count : ℕ) (equal : Bool) → equal ≡ true → record { state = 0; count = count } ≡ outcome (Accepted count) equal
 unfolding outcome
 outcome-equal count true is = refl
-outcome-equal count false is = let z : _≡_ {A = ℕ} 0 1 = cc in absurd (omega arith)
+outcome-equal count false is = absurd (false≢true is)
 
 -- an acceptance of another message has state 1
 outcome-other : (count : ℕ) (equal : Bool) → equal ≡ false → record { state = 1; count = count }
     ≡ outcome (Accepted count) equal
 unfolding outcome
-outcome-other count true is = let z : _≡_ {A = ℕ} 0 1 = cc in absurd (omega arith)
+outcome-other count true is = absurd (true≢false is)
 outcome-other count false is = refl
 
 -- the record of a row's bytes, by what reading them answered and by whether the message read is the payload's
