@@ -3,7 +3,6 @@
 -- Assumes nothing.
 mod Products
 mod Terms
-mod VotedWeights
 mod SymbolFor
 mod Remaining
 mod Interpolated

@@ -5,6 +5,7 @@ pub mod Reading
 pub mod Simultaneous
 pub mod Degrees
 pub mod PairNumbers
+pub mod VotedWeights
 pub mod PairSymbols
 pub mod PairStep
 pub mod InPlace

@@ -24,7 +24,8 @@ use Rattle.published.proofs.Reading.{coefficient-cong, coefficient-made
 use Rattle.published.proofs.Reading.{replaced-here, replaced-other, exchanged-f, exchanged-g}
 use Rattle.published.proofs.Simultaneous.{raisedF, reducedF, changed-kept, changed-raised, changed-reduced}
 use Rattle.published.proofs.PairNumbers.{one-part, pairing-paired, pairing-even, k-negative, voted-k}
-use Rattle.published.proofs.PairSymbols.{voted-nongap, unvoted, w-negative}
+use Rattle.published.proofs.VotedWeights.{voted-nongap}
+use Rattle.published.proofs.PairSymbols.{unvoted, w-negative}
 use Rattle.published.proofs.PairStep.{combined, PairStep, kept, raised, reduced}
 use Rattle.published.proofs.InPlace.{InPlace}
 use Rattle.published.proofs.PairGap.{partner-below, raised-narrow, reduced-narrow}
@@ -171,7 +172,7 @@ module _ {𝓢 : Symbols} {q : ℕ} (𝓛 : Laws 𝓢 q) where
         zero-vote : w ≡ 𝟘
         zero-vote =
             decided (isVoted q u s)
-            (λ t. absurd (true≢false (sym negative ∙ voted-k 𝓢 q u s S i hi (voted-nongap 𝓢 q u s t))))
+            (λ t. absurd (true≢false (sym negative ∙ voted-k 𝓢 q u s S i hi (voted-nongap q u s t))))
             (unvoted 𝓢 q u s (pairings 𝓢 q u s S))
 
         none : (b n : ℕ) → b < q → weight q b n ≡ weight q i A + s → F lower b n ≡ 𝟘

@@ -1,27 +1,21 @@
 -- The symbols of a pair and the vote: w_i and μ_i by the sign of k and the kind of the step.
 use mathlib.Core.Path.{_≡_, ap}
 use mathlib.Core.Logic.{_⊎_, inl, inr}
-use mathlib.Core.Bool.{true, false, cond, and-eq-true-iff}
+use mathlib.Core.Bool.{true, false, cond}
 use mathlib.Core.List.{List}
 use Prim.Native.Nat.{ℕ, _*_, _-_, _≤_}
-use lib.Dec.{leb}
 use lib.IntN.{pos}
-use borrow.Author.Tests.{leb-true}
 use Rattle.algebra.specs.Symbols.{Symbols}
 use Rattle.algebra.specs.Weights.{nongap}
 use Rattle.published.specs.Start.{Polynomials, lower, f, coefficient}
 use Rattle.published.specs.Pairing.{Pairing, pairing, leadF, looked, isNegative, positivePart}
 use Rattle.published.specs.Pairing.{isVoted, score, best, vote}
 use Rattle.published.proofs.Tests.{decided}
+use Rattle.published.proofs.VotedWeights.{voted-below, voted-nongap}
 
 module _ (𝓢 : Symbols) (q : ℕ) (u s : ℕ) where
   infixl 70 _⊗_
   open Symbols 𝓢 using (K, 𝟘, 𝟙, minus, _⊗_, inverse, symbol)
-
-  -- a voted weight is a non-gap
-  pub voted-nongap : isVoted q u s ≡ true → nongap q s ≡ true
-  unfolding isVoted
-  voted-nongap e = and-eq-true-iff (leb s u) (nongap q s) .0 e .1
 
   -- an unvoted step has the vote 0
   pub unvoted : (Ps : List (Pairing 𝓢 q)) → isVoted q u s ≡ false → vote 𝓢 q u s Ps ≡ 𝟘
@@ -30,10 +24,8 @@ module _ (𝓢 : Symbols) (q : ℕ) (u s : ℕ) where
 
   -- the vote is 0, or its weight is at most u and a non-gap
   pub vote-placed : (Ps : List (Pairing 𝓢 q)) → (vote 𝓢 q u s Ps ≡ 𝟘) ⊎ ((s ≤ u) × (nongap q s ≡ true))
-  unfolding isVoted
   vote-placed Ps =
-      decided (isVoted q u s)
-      (λ e. inr (leb-true s u (and-eq-true-iff (leb s u) (nongap q s) .0 e .0), voted-nongap e)) (λ e. inl (unvoted Ps e))
+      decided (isVoted q u s) (λ e. inr (voted-below q u s e, voted-nongap q u s e)) (λ e. inl (unvoted Ps e))
 
   module _ (S : Polynomials 𝓢 q) (i : ℕ) where
     -- the numbers of pair i

@@ -19,7 +19,7 @@ use Rattle.published.specs.Start.{Polynomials, lower}
 use Rattle.published.specs.Pairing.{Pairing, pairing, degreeF, leadF, looked, isVoted, isNegative, positivePart}
 use Rattle.published.proofs.Tests.{decided}
 use Rattle.published.proofs.PairNumbers.{pairing-paired, pairing-even, k-negative, k-whole, voted-whole}
-use Rattle.decoder.proofs.Undamaged.VotedWeights.{unvoted-above, unvoted-gap, voted-below, voted-nongap}
+use Rattle.published.proofs.VotedWeights.{unvoted-above, unvoted-gap, voted-below, voted-nongap}
 use Rattle.decoder.proofs.Undamaged.Remaining.{below, below-in, below-out, below-looked}
 use Rattle.decoder.proofs.Undamaged.Begun.{begun, held-f, part-f-lower, degree-f, degree-g, leading-f}
 

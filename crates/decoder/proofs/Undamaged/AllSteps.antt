@@ -23,7 +23,7 @@ use Rattle.published.proofs.Simultaneous.{changed-kept}
 use Rattle.decoder.proofs.Undamaged.Remaining.{below}
 use Rattle.decoder.proofs.Undamaged.Interpolated.{valuesOf}
 use Rattle.decoder.proofs.Undamaged.Begun.{begun}
-use Rattle.decoder.proofs.Undamaged.VotedWeights.{voted-nongap}
+use Rattle.published.proofs.VotedWeights.{voted-nongap}
 use Rattle.decoder.proofs.Undamaged.Scores.{vote-only}
 use Rattle.decoder.proofs.Undamaged.Agreeing.{left-small, names, leads}
 use Rattle.decoder.proofs.Undamaged.TermTaken.{term-taken}

@@ -16,7 +16,7 @@ use Rattle.curve.proofs.Ranks.{nongaps-small, nongaps-pass, nongaps-rank}
 use Rattle.curve.specs.MessageFunction.{messageFunction}
 use Rattle.curve.proofs.MessageFunction.{function-in, function-out}
 use Rattle.published.specs.Pairing.{isVoted}
-use Rattle.decoder.proofs.Undamaged.VotedWeights.{is-voted, unvoted-above}
+use Rattle.published.proofs.VotedWeights.{is-voted, unvoted-above}
 use Rattle.decoder.proofs.Undamaged.Remaining.{below, below-in, below-out}
 
 module _ (𝓢 : Symbols) (q u : ℕ) (message : List (𝓢 .K)) where

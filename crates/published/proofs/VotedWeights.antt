@@ -4,9 +4,9 @@ use mathlib.Core.Path.{_≡_, ap, _∙_}
 use mathlib.Core.Bool.{true, false, not, _&&_, and-false, and-eq-true-iff}
 use Prim.Native.Nat.{ℕ, _≤_, _<_}
 use lib.Dec.{leb}
-use borrow.Author.Tests.{leb-true, le-leb, lt-leb}
+use borrow.Author.Tests.{leb-true, le-leb, lt-leb, not-true}
 use Rattle.algebra.specs.Weights.{gap, nongap}
 use Rattle.published.specs.Pairing.{isVoted}
 
 module _ (q u s : ℕ) where
   -- a weight above u is not voted
@@ -29,7 +29,12 @@ module _ (q u s : ℕ) where
   unfolding isVoted
   voted-below t = leb-true s u (and-eq-true-iff (leb s u) (nongap q s) .0 t .0)
 
-  -- and no gap
+  -- and a non-gap
   pub voted-nongap : isVoted q u s ≡ true → nongap q s ≡ true
   unfolding isVoted
   voted-nongap t = and-eq-true-iff (leb s u) (nongap q s) .0 t .1
+
+  -- so it is no gap
+  pub voted-no-gap : isVoted q u s ≡ true → gap q s ≡ false
+  unfolding nongap
+  voted-no-gap t = not-true (gap q s) (voted-nongap t)
