@@ -41,9 +41,12 @@ pub enum Verified {
 
 // Verifies a block against its payload.
 pub fn verify(block: &[u8], payload: &[u8], records: &mut [Record], work: &mut [u8]) -> Verified
-    ensures answered { λ v. ⌜ v ≡ verifyAnswer (now (block .entry)) (now (payload .entry)) (now (records .entry)) (now (work .entry)) ⌝ }
-    ensures records_left { λ _. ⌜ now (records .exit) ≡ verifyRecords (now (block .entry)) (now (payload .entry)) (now (records .entry)) (now (work .entry)) ⌝ }
-    ensures work_left { λ _. ⌜ now (work .exit) ≡ verifyWork (now (block .entry)) (now (payload .entry)) (now (records .entry)) (now (work .entry)) ⌝ }
+    ensures answered { λ v. ⌜ v
+        ≡ verifyAnswer (now (block .entry)) (now (payload .entry)) (now (records .entry)) (now (work .entry)) ⌝ }
+    ensures records_left { λ _. ⌜ now (records .exit)
+        ≡ verifyRecords (now (block .entry)) (now (payload .entry)) (now (records .entry)) (now (work .entry)) ⌝ }
+    ensures work_left { λ _. ⌜ now (work .exit)
+        ≡ verifyWork (now (block .entry)) (now (payload .entry)) (now (records .entry)) (now (work .entry)) ⌝ }
     ensures copied { λ v. ⌜ ((total : ℕ) → v ≡ Copied total → CopyOf (now (block .entry)) (now (payload .entry))) ⌝ }
 {
     let mut verdict = verdict_before(block, payload, records.len(), work.len());
@@ -60,9 +63,12 @@ pub fn verify(block: &[u8], payload: &[u8], records: &mut [Record], work: &mut [
 
 // Verifies a block against its payload; each record is two of the lent bytes, its state and its count.
 pub fn verify_bytes(block: &[u8], payload: &[u8], records: &mut [u8], work: &mut [u8]) -> Verified
-    ensures answered { λ v. ⌜ v ≡ verifyBytesAnswer (now (block .entry)) (now (payload .entry)) (now (records .entry)) (now (work .entry)) ⌝ }
-    ensures records_left { λ _. ⌜ now (records .exit) ≡ verifyBytesRecords (now (block .entry)) (now (payload .entry)) (now (records .entry)) (now (work .entry)) ⌝ }
-    ensures work_left { λ _. ⌜ now (work .exit) ≡ verifyBytesWork (now (block .entry)) (now (payload .entry)) (now (records .entry)) (now (work .entry)) ⌝ }
+    ensures answered { λ v. ⌜ v
+        ≡ verifyBytesAnswer (now (block .entry)) (now (payload .entry)) (now (records .entry)) (now (work .entry)) ⌝ }
+    ensures records_left { λ _. ⌜ now (records .exit)
+        ≡ verifyBytesRecords (now (block .entry)) (now (payload .entry)) (now (records .entry)) (now (work .entry)) ⌝ }
+    ensures work_left { λ _. ⌜ now (work .exit)
+        ≡ verifyBytesWork (now (block .entry)) (now (payload .entry)) (now (records .entry)) (now (work .entry)) ⌝ }
     ensures copied { λ v. ⌜ ((total : ℕ) → v ≡ Copied total → CopyOf (now (block .entry)) (now (payload .entry))) ⌝ }
 {
     let mut verdict = verdict_before(block, payload, records.len() / 2, work.len());
