@@ -6,7 +6,7 @@ use decoder::Decoded;
 use libc::STDIN_FILENO;
 use libc::STDOUT_FILENO;
 use steps::Stopped;
-ghost use Prim.Native.Nat.{_<_, _≤_};
+ghost use Prim.Native.Nat.{_≤_};
 ghost use lib.ListN.{length};
 
 // What stands in the areas before a call: no symbol.
@@ -105,26 +105,11 @@ fn decode_line(line: &[u8]) {
     decode_row(q, u, &row[..count], &mut work);
 }
 
-// Where the line that starts at a place ends: past its newline, or at the end of the text.
-fn line_end(text: &[u8], start: usize) -> usize
-    requires { ⌜ start < length (now text) ⌝ }
-    ensures { λ r. ⌜ (start < r) × (r ≤ length (now (text .entry))) ⌝ }
-{
-    let mut i = start;
-    while i < text.len() {
-        if text[i] == b'\n' {
-            return i + 1;
-        }
-        i += 1;
-    }
-    i
-}
-
 // All lines of a text.
 fn decode_lines(text: &[u8]) {
     let mut at = 0;
     while at < text.len() {
-        let end = line_end(text, at);
+        let end = lines::line_end(text, at);
         decode_line(&text[at..end]);
         at = end;
     }

@@ -6,8 +6,6 @@
 use libc::STDIN_FILENO;
 use libc::STDOUT_FILENO;
 use steps::Stopped;
-ghost use Prim.Native.Nat.{_<_, _≤_};
-ghost use lib.ListN.{length};
 
 // What stands in the areas before a call, and what is read where no digit is: no symbol.
 const UNTOUCHED: u8 = 255;
@@ -118,26 +116,11 @@ fn run_line(line: &mut [u8]) {
     );
 }
 
-// Where the line that starts at a place ends: past its newline, or at the end of the text.
-fn line_end(text: &[u8], start: usize) -> usize
-    requires { ⌜ start < length (now text) ⌝ }
-    ensures { λ r. ⌜ (start < r) × (r ≤ length (now (text .entry))) ⌝ }
-{
-    let mut i = start;
-    while i < text.len() {
-        if text[i] == b'\n' {
-            return i + 1;
-        }
-        i += 1;
-    }
-    i
-}
-
 // All cases of a text, one to a line.
 fn run_lines(text: &mut [u8]) {
     let mut at = 0;
     while at < text.len() {
-        let end = line_end(text, at);
+        let end = lines::line_end(text, at);
         run_line(&mut text[at..end]);
         at = end;
     }
