@@ -141,10 +141,14 @@ length-answer q u row =
     rw (passed refuseLine (rowLines q u row) p) (length-row-lines q u row (row-passes q u row p .known) (row-passes q u row p .code)))
     (decideChecks (traceChecks q u row))
 
+-- and so does any refusal's line
+refuse-fits : (why : Refusal) → length (refuseLine why) ≤ 4096
+refuse-fits why = omega (arith, length-refuse why)
+
 pub length-trace : (text : List ℕ) → length (traceText text) ≤ 4096
 unfolding traceText
 length-trace text = by-said (reading text)
   where
     by-said : (said : Said) → length (answerTo said) ≤ 4096
     by-said (asks q u row) = unfold answerTo in length-answer q u row
-    by-said nothing = unfold answerTo in omega (arith, length-refuse WrongLength)
+    by-said nothing = unfold answerTo in refuse-fits _
