@@ -9,3 +9,4 @@ pub mod Rounds
 pub mod Ends
 pub mod Again
 pub mod Copies
+pub mod Settled

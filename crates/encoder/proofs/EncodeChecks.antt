@@ -16,7 +16,7 @@ module _ (q u : ℕ) (message output : List ℕ) where
       → (Refused why ≡ encodeAnswer q u message output) × (output ≡ encodeOutput q u message output)
   unfolding encodeAnswer encodeOutput
   encode-refused r =
-      (sym (refused Refused Done r), sym (refused (λ why. output) (rowNumbers q u message ++ drop (pointCount q) output) r))
+      (sym (refused Refused Done r), sym (refused (λ why. output) _ r))
 
   -- otherwise the row is written
   pub encode-done : Passes (encodeChecks q u message output)

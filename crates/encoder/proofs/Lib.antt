@@ -4,3 +4,4 @@ mod Values
 mod RowNumbers
 mod Written
 mod EncodeChecks
+pub mod Settled

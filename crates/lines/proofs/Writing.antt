@@ -69,6 +69,10 @@ wrote-more {l} {m} {n} {a} {b} {at} {next} {last} fits first second =
           ∙ written-more l at a b fits;
     }
 
+-- any two results of writing the same text at the same place are equal
+pub wrote-settled : {l m m′ a : List ℕ} {at next next′ : ℕ} → Wrote l at a m next → Wrote l at a m′ next′ → (m ≡ m′) × (next ≡ next′)
+wrote-settled done done′ = (done .buffer ∙ sym (done′ .buffer), done .place ∙ sym (done′ .place))
+
 -- what is written leaves the buffer's length
 pub wrote-length : {l m a : List ℕ} {at next : ℕ} → at + length a ≤ length l → Wrote l at a m next → length m ≡ length l
 wrote-length {l} {m} {a} {at} {next} fits done = ap length (done .buffer) ∙ written-length l at a fits

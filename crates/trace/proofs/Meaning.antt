@@ -122,6 +122,12 @@ reading-means text =
       only = reads-taken text;
     }
 
+-- any two things that a text says are equal
+pub means-settled : (text : List ℕ) (said said′ : Said) → Means text said → Means text said′ → said ≡ said′
+means-settled text (asks q u row) said′ means means′ = sym (means′ .only q u row (means .taken q u row refl))
+means-settled text nothing (asks q u row) means means′ = means .only q u row (means′ .taken q u row refl)
+means-settled text nothing nothing means means′ = refl
+
 -- an answer that is the reading says what the text is taken as, and its count is within the row
 pub answers : (text : List ℕ) {said : Said} {count size : ℕ} → said ≡ reading text → count ≤ size
     → (said ≡ reading text) × (Means text said × (count ≤ size))
