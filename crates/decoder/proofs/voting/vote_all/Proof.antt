@@ -34,7 +34,7 @@ clear-requires c κs =
     let advanced = c .before .before .before .before .before in
     let size = advanced .before .before .before in
     let at = size .before .before .before .before .before in
-    picture-room (at .args .q) (at .args .u) (now (at .args .row)) (size .before .step-count .result) (now (at .args .work)) _ _
+    picture-room (at .args .q) (at .args .u) (now (at .args .row)) _ (now (at .args .work)) _ _
     (size .area-size .ensures) (advanced .advance .ensures .0)
 
 same-length : tie.Need-same-length
@@ -51,7 +51,7 @@ returns c =
     let steps = size .before in
     let at = steps .before .before .before .before in
     let row = now (at .args .row) in (
-      picture-cleared (at .args .q) (at .args .u) row (steps .step-count .result) (now (at .args .work)) _ _
+      picture-cleared (at .args .q) (at .args .u) row _ (now (at .args .work)) _ _
           (size .area-size .ensures) (advanced .advance .ensures .0) _ (c .before .before .clear .ensures),
       voted-after (at .args .q) (at .pre .0 .known) (at .args .u) row _ _ (steps .step-count .result) (steps .step-count .ensures) (advanced .advance .ensures .1),
     )
