@@ -1,5 +1,5 @@
--- `place_of` meets its contract: each arm returns what `verifyAt` says of its case. Rattle finds this by itself; it is written out so
--- that a wrong arm is refused here, and not first where `place_of` is called. Assumes nothing.
+-- `place_of` meets its contract: each arm returns what `verifyAt` says of its case. Rattle finds this by itself; it is written
+-- out so that a wrong arm is refused here, and not first where `place_of` is called. Assumes nothing.
 use borrow.Author.Needs.{needs}
 use mathlib.Core.Path.{sym, ap}
 use Rattle.block.specs.declared.Verified.{Verified}
