@@ -4,7 +4,7 @@ use mathlib.Core.Path.{_≡_, refl, sym, ap, _∙_, subst}
 use mathlib.Core.Bool.{Bool, true, false}
 use mathlib.Core.List.{List, []}
 use mathlib.Core.Logic.{⊎-elim}
-use Prim.Native.Nat.{ℕ, _+_, _*_, _<_}
+use Prim.Native.Nat.{ℕ, _+_, _*_, _<_, _≤_}
 use native.Mathlib.Omega.{arith}
 use lib.Bits.{bitXor}
 use lib.Dec.{eqb, ltb}
@@ -13,7 +13,7 @@ use borrow.Author.Tests.{eq-eqb, ne-eqb, le-ltb}
 use Rattle.algebra.specs.Symbols.{Symbols, same}
 use Rattle.algebra.specs.Functions.{shift, timesX}
 use Rattle.lists.specs.Tables.{tab}
-use Rattle.lists.proofs.Numbers.{same-or-not}
+use Rattle.lists.proofs.Numbers.{lt-or-ge, same-or-not}
 use Rattle.lists.proofs.Tables.{getD-tab}
 use Rattle.symbols.specs.Rule.{Known, symbols, Sym, number, symbol}
 use Rattle.symbols.proofs.FieldLaws.{laws-of}
@@ -21,9 +21,11 @@ use Rattle.symbols.proofs.Bytes.{number-of-sum, minus-is-plus}
 use Rattle.published.specs.Start.{Polynomial, Polynomials, polynomial, width}
 use Rattle.published.specs.Pairing.{Pairing, positivePart, negativePart}
 use Rattle.published.specs.Steps.{raisedPart, reducedPart, replaced, exchanged, ratio, changed}
-use Rattle.steps.specs.Area.{Cells, cellsOf, Turns, Becomes, withRows, plusMultiple, raisedPlus, polynomialAdded, polynomialsExchanged}
+use Rattle.steps.specs.Area.{Cells, cellsOf, Turns, Becomes, withRows, firstSymbols, rowHeight, plusMultiple, raisedPlus, polynomialAdded, polynomialsExchanged}
 use Rattle.steps.proofs.Cells.{picture-is, shown-same, rows-in, rows-out}
+use Rattle.steps.proofs.FirstSymbols.{first-in, first-all, height-upper, height-lower}
 use Rattle.steps.proofs.RowLaws.{plus-is, raised-is}
+use Rattle.steps.proofs.Turned.{shift-cong}
 use Rattle.steps.proofs.Coefficients.{held, cell-held, held-polynomial}
 
 -- a change of cells that makes the cells of T of those of S
@@ -45,12 +47,23 @@ module _ (q : ℕ) (known : Known q) (S : Polynomials (symbols q) q) where
   in-table : (G : ℕ → Polynomial (symbols q) q) (p r n : ℕ) → p < 2 * q → cellsOf q (tab (2 * q) G) p r n ≡ held q (G p) r n
   in-table G p r n hp = cell-held q (tab (2 * q) G) p r n ∙ ap (λ (F : Polynomial (symbols q) q). held q F r n) (getD-tab (2 * q) G p [] hp)
 
+  -- nothing is left out of a row that is added, where the upper rows have no more than h symbols
+  all-added : (g h : ℕ) → ((r n : ℕ) → r < q → n < width q → h ≤ n → cellsOf q S g r n ≡ symbols q .𝟘) → (r n : ℕ) → n < width q
+      → firstSymbols q (rowHeight q h r) (cellsOf q S g r) n ≡ cellsOf q S g r n
+  all-added g h short r n hn =
+      ⊎-elim
+      (λ (l : r < q). rw (height-upper q h r l) (first-all q h (cellsOf q S g r) n (short r n l hn)))
+      (λ (l : q ≤ r). rw (height-lower q h r l) (first-in q (width q) (cellsOf q S g r) n hn))
+      (lt-or-ge r q)
+
   -- f_i - ρ·x^c·g is f_i + ρ·x^c·g
-  reduced-cell : (i g c : ℕ) (ρ : K) (r n : ℕ) → r < 2 * q → n < width q
-      → plusMultiple q (cellsOf q S (q + i) r) ρ c (cellsOf q S g r) n ≡ held q (polynomial (symbols q) q (reducedPart (symbols q) q S i g c ρ)) r n
+  reduced-cell : (i g h c : ℕ) (ρ : K) → ((r n : ℕ) → r < q → n < width q → h ≤ n → cellsOf q S g r n ≡ symbols q .𝟘) → (r n : ℕ) → r < 2 * q → n < width q
+      → plusMultiple q (cellsOf q S (q + i) r) ρ c (firstSymbols q (rowHeight q h r) (cellsOf q S g r)) n
+      ≡ held q (polynomial (symbols q) q (reducedPart (symbols q) q S i g c ρ)) r n
   unfolding reducedPart timesX cellsOf
-  reduced-cell i g c ρ r n hr hn =
-      plus-is q known (cellsOf q S (q + i) r) ρ c (cellsOf q S g r) n
+  reduced-cell i g h c ρ short r n hr hn =
+      plus-is q known (cellsOf q S (q + i) r) ρ c (firstSymbols q (rowHeight q h r) (cellsOf q S g r)) n
+      ∙ ap (λ (y : K). cellsOf q S (q + i) r n ⊕ ρ ⊗ y) (shift-cong (symbols q) q c n (λ m l. all-added g h short r m (omega arith)))
       ∙ sym (minus-is-plus q (cellsOf q S (q + i) r n) (ρ ⊗ shift (symbols q) q c (cellsOf q S g r) n))
       ∙ sym (held-polynomial q (reducedPart (symbols q) q S i g c ρ) r n hr hn)
 
@@ -70,16 +83,17 @@ module _ (q : ℕ) (known : Known q) (S : Polynomials (symbols q) q) where
       ap (λ (k : ℕ). withRows q p 0 (2 * q) F T p k n) (sym z) ∙ rows-in q p 0 (2 * q) F T r n hr
 
   -- "new f_i is f_i - r·x^(-c)·g_i'"
-  pub replaced-cells : (i g c : ℕ) (ρ : K) (p r n : ℕ) → p < 2 * q → r < 2 * q → n < width q
-      → polynomialAdded q (q + i) g c ρ (2 * q) (cellsOf q S) p r n
+  pub replaced-cells : (i g h c : ℕ) (ρ : K) → ((r n : ℕ) → r < q → n < width q → h ≤ n → cellsOf q S g r n ≡ symbols q .𝟘)
+      → (p r n : ℕ) → p < 2 * q → r < 2 * q → n < width q
+      → polynomialAdded q (q + i) g h c ρ (2 * q) (cellsOf q S) p r n
       ≡ cellsOf q (replaced (symbols q) q i (polynomial (symbols q) q (reducedPart (symbols q) q S i g c ρ)) S) p r n
   unfolding polynomialAdded replaced
-  replaced-cells i g c ρ p r n hp hr hn =
+  replaced-cells i g h c ρ short p r n hp hr hn =
       ⊎-elim
       (λ (e : p ≡ q + i).
       rw e
       (all-rows (q + i) F (cellsOf q S) r n hr
-      ∙ reduced-cell i g c ρ r n hr hn
+      ∙ reduced-cell i g h c ρ short r n hr hn
       ∙ sym (chosen (q + i) true (eq-eqb (q + i) (q + i) refl))
       ∙ sym (in-table new (q + i) r n (rw e at hp))))
       (λ ne.
@@ -90,7 +104,7 @@ module _ (q : ℕ) (known : Known q) (S : Polynomials (symbols q) q) where
       (same-or-not p (q + i))
     where
       F : ℕ → ℕ → K
-      F r = plusMultiple q (cellsOf q S (q + i) r) ρ c (cellsOf q S g r)
+      F r = plusMultiple q (cellsOf q S (q + i) r) ρ c (firstSymbols q (rowHeight q h r) (cellsOf q S g r))
 
       made : Polynomial (symbols q) q
       made = polynomial (symbols q) q (reducedPart (symbols q) q S i g c ρ)
@@ -183,11 +197,12 @@ module _ (q : ℕ) (known : Known q) (S : Polynomials (symbols q) q) where
         ∙ ap (λ (T : Polynomials (symbols q) q). cellsOf q T p r n) (sym (changed-is false true (ne-eqb _ _ ne) up))
 
     -- "w_i ≠ w, c ≤ 0"
-    pub changed-reduced : (number q (P .w) ≡ number q ω → ⊥) → positivePart (P .c) ≡ 0 → (p r n : ℕ) → p < 2 * q → r < 2 * q → n < width q
-        → polynomialAdded q (q + i) (P .partner) (negativePart (P .c)) (ratio (symbols q) q ω P) (2 * q) (cellsOf q S) p r n
+    pub changed-reduced : (h : ℕ) → ((r n : ℕ) → r < q → n < width q → h ≤ n → cellsOf q S (P .partner) r n ≡ symbols q .𝟘)
+        → (number q (P .w) ≡ number q ω → ⊥) → positivePart (P .c) ≡ 0 → (p r n : ℕ) → p < 2 * q → r < 2 * q → n < width q
+        → polynomialAdded q (q + i) (P .partner) h (negativePart (P .c)) (ratio (symbols q) q ω P) (2 * q) (cellsOf q S) p r n
         ≡ cellsOf q (changed (symbols q) q ω i P S) p r n
-    changed-reduced ne none p r n hp hr hn =
-        replaced-cells i (P .partner) (negativePart (P .c)) (ratio (symbols q) q ω P) p r n hp hr hn
+    changed-reduced h short ne none p r n hp hr hn =
+        replaced-cells i (P .partner) h (negativePart (P .c)) (ratio (symbols q) q ω P) short p r n hp hr hn
         ∙ ap (λ (T : Polynomials (symbols q) q). cellsOf q T p r n) (sym (changed-is false false (ne-eqb _ _ ne) (le-ltb 0 (positivePart (P .c)) (omega arith))))
 
 -- the code's r

@@ -1,6 +1,8 @@
 mod Bytes
 pub mod Cells
 pub mod Sizes
+mod FirstSymbols
+mod HeightLaws
 mod RowLaws
 mod Turned
 mod ProductCells
@@ -12,6 +14,7 @@ mod PairNumbers
 mod VoteLaws
 mod ChangeLaws
 mod ReplaceLaws
+mod BelowLaws
 pub mod NarrowLaws
 mod StepLaws
 mod VotePlaces

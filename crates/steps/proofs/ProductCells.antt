@@ -2,9 +2,11 @@
 -- Assumes nothing.
 use mathlib.Core.Path.{_≡_, refl, sym, ap, _∙_, subst}
 use mathlib.Core.Bool.{Bool, true, false}
+use mathlib.Core.List.{List}
 use mathlib.Core.Logic.{_⊎_, inl, inr, ⊎-elim}
 use Prim.Native.Nat.{ℕ, _+_, _-_, _*_, _<_, _≤_}
 use native.Mathlib.Omega.{arith}
+use lib.ListN.{getD}
 use borrow.Author.Tests.{lt-ltb, le-ltb}
 use Rattle.algebra.specs.Symbols.{Symbols}
 use Rattle.algebra.specs.Functions.{shift, timesX, timesYs}
@@ -13,9 +15,10 @@ use Rattle.lists.proofs.Numbers.{lt-or-ge, same-or-not}
 use Rattle.symbols.specs.Rule.{Known, symbols}
 use Rattle.symbols.proofs.FieldLaws.{laws-of}
 use Rattle.symbols.proofs.Bytes.{minus-is-plus}
-use Rattle.steps.specs.Area.{Apart, Cells, withRows, sourceRow, sourceShift, plusMultiple, rowAdded, functionOf, plusProduct, productRowAdded, productAdded, upperOf, lowerOf, replacedZ}
+use Rattle.steps.specs.Area.{Apart, Cells, withRows, sourceRow, sourceShift, plusMultiple, rowAdded, functionOf, lowFunctionOf, plusProduct, productRowAdded, productAdded, upperOf, lowerOf, replacedZ}
 use Rattle.steps.specs.declared.products.Part.{Part}
 use Rattle.steps.proofs.Cells.{rows-in, rows-out, rows-are, row-here, row-there, row-is}
+use Rattle.steps.proofs.FirstSymbols.{first-cong}
 use Rattle.steps.proofs.RowLaws.{plus-is}
 use Rattle.steps.proofs.Turned.{shift-cong, timesYs-cong, product-plain, product-round}
 
@@ -24,70 +27,73 @@ module _ (q : ℕ) (known : Known q) where
   infixl 70 _⊗_
   open Symbols (symbols q) using (K, 𝟘, _⊕_, _⊖_, _⊗_)
 
-  -- x^a·y^b times functions that agree in the powers of y below q
-  pub product-cong : (a b : ℕ) (F G : ℕ → ℕ → K) → ((j i : ℕ) → j < q → F j i ≡ G j i) → (j i : ℕ) → j < q
+  -- x^a·y^b times functions that agree in the powers of y below q, as far as they are looked at
+  pub product-cong : (a b : ℕ) (F G : ℕ → ℕ → K) (j i : ℕ) → ((k n : ℕ) → k < q → n ≤ i → F k n ≡ G k n) → j < q
       → timesX (symbols q) q a (timesYs (symbols q) q b F) j i ≡ timesX (symbols q) q a (timesYs (symbols q) q b G) j i
   unfolding timesX
-  product-cong a b F G h j i hj = shift-cong (symbols q) q a i (λ n. timesYs-cong (symbols q) q F G h b j n hj)
+  product-cong a b F G j i h hj =
+      shift-cong (symbols q) q a i (λ n l. timesYs-cong (symbols q) q F G b j n (λ k m hk hm. h k m hk (omega arith)) hj)
 
-  module _ (to from : Part) (a b : ℕ) (ρ : K) where
+  module _ (to from : Part) (height a b : ℕ) (ρ : K) where
     -- a row of a part plus a product
-    pub plusProduct-is : (S : Cells q) (j i : ℕ) → plusProduct q to from a b ρ S j i
-        ≡ functionOf q to S j i ⊕ ρ ⊗ timesX (symbols q) q a (timesYs (symbols q) q b (functionOf q from S)) j i
+    pub plusProduct-is : (S : Cells q) (j i : ℕ) → plusProduct q to from height a b ρ S j i
+        ≡ functionOf q to S j i ⊕ ρ ⊗ timesX (symbols q) q a (timesYs (symbols q) q b (lowFunctionOf q height from S)) j i
     unfolding plusProduct
     plusProduct-is S j i = refl
 
     -- equal rows to add to, and equal rows to multiply
     plusProduct-cong : (S T : Cells q) (j i : ℕ) → j < q → functionOf q to S j i ≡ functionOf q to T j i
-        → ((k n : ℕ) → k < q → functionOf q from S k n ≡ functionOf q from T k n) → plusProduct q to from a b ρ S j i ≡ plusProduct q to from a b ρ T j i
+        → ((k n : ℕ) → k < q → functionOf q from S k n ≡ functionOf q from T k n) → plusProduct q to from height a b ρ S j i ≡ plusProduct q to from height a b ρ T j i
     plusProduct-cong S T j i hj here there =
         plusProduct-is S j i
-        ∙ ap (λ (y : K). y ⊕ ρ ⊗ timesX (symbols q) q a (timesYs (symbols q) q b (functionOf q from S)) j i) here
-        ∙ ap (λ (y : K). functionOf q to T j i ⊕ ρ ⊗ y) (product-cong a b (functionOf q from S) (functionOf q from T) there j i hj)
+        ∙ ap (λ (y : K). y ⊕ ρ ⊗ timesX (symbols q) q a (timesYs (symbols q) q b (lowFunctionOf q height from S)) j i) here
+        ∙ ap (λ (y : K). functionOf q to T j i ⊕ ρ ⊗ y)
+        (product-cong a b (lowFunctionOf q height from S) (lowFunctionOf q height from T) j i
+        (λ k n hk l. first-cong q height (functionOf q from S k) (functionOf q from T k) n (there k n hk)) hj)
         ∙ sym (plusProduct-is T j i)
 
     module _ (S : Cells q) (j : ℕ) (hb : b < q) (hj : j < q) where
       abbrev first : Cells q
-      first = rowAdded q (to .polynomial) (to .row + j) (from .polynomial) (from .row + sourceRow q b j) (a + sourceShift q b j) ρ S
+      first = rowAdded q (to .polynomial) (to .row + j) (from .polynomial) (from .row + sourceRow q b j) height (a + sourceShift q b j) ρ S
 
       abbrev main : ℕ → K
-      main i = shift (symbols q) q (a + sourceShift q b j) (functionOf q from S (sourceRow q b j)) i
+      main i = shift (symbols q) q (a + sourceShift q b j) (lowFunctionOf q height from S (sourceRow q b j)) i
 
       first-here : (i : ℕ) → first (to .polynomial) (to .row + j) i ≡ functionOf q to S j i ⊕ ρ ⊗ main i
       unfolding rowAdded
       first-here i =
-          row-here q (to .polynomial) (to .row + j) (plusMultiple q (functionOf q to S j) ρ (a + sourceShift q b j) (functionOf q from S (sourceRow q b j))) S i
-          ∙ plus-is q known (functionOf q to S j) ρ (a + sourceShift q b j) (functionOf q from S (sourceRow q b j)) i
+          row-here q (to .polynomial) (to .row + j) (plusMultiple q (functionOf q to S j) ρ (a + sourceShift q b j) (lowFunctionOf q height from S (sourceRow q b j))) S i
+          ∙ plus-is q known (functionOf q to S j) ρ (a + sourceShift q b j) (lowFunctionOf q height from S (sourceRow q b j)) i
 
       first-there : (p r i : ℕ) → (p ≡ to .polynomial → r ≡ to .row + j → ⊥) → first p r i ≡ S p r i
       unfolding rowAdded
-      first-there = row-there q (to .polynomial) (to .row + j) (plusMultiple q (functionOf q to S j) ρ (a + sourceShift q b j) (functionOf q from S (sourceRow q b j))) S
+      first-there = row-there q (to .polynomial) (to .row + j) (plusMultiple q (functionOf q to S j) ρ (a + sourceShift q b j) (lowFunctionOf q height from S (sourceRow q b j))) S
 
       -- one row added makes the row of the product where no y comes round
-      pub once : (j ≡ 0) ⊎ (b < j) → (p r i : ℕ) → first p r i ≡ productRowAdded q to from j a b ρ S p r i
+      pub once : (j ≡ 0) ⊎ (b < j) → (p r i : ℕ) → first p r i ≡ productRowAdded q to from j height a b ρ S p r i
       unfolding productRowAdded
       once o =
-          row-is q (to .polynomial) (to .row + j) (plusProduct q to from a b ρ S j) S first
+          row-is q (to .polynomial) (to .row + j) (plusProduct q to from height a b ρ S j) S first
           (λ i. first-here i
-          ∙ ap (λ (y : K). functionOf q to S j i ⊕ ρ ⊗ y) (sym (product-plain (symbols q) q (functionOf q from S) a b j i hb hj o))
+          ∙ ap (λ (y : K). functionOf q to S j i ⊕ ρ ⊗ y) (sym (product-plain (symbols q) q (lowFunctionOf q height from S) a b j i hb hj o))
           ∙ sym (plusProduct-is S j i))
           first-there
 
       -- two rows added make it where a y comes round
       pub twice : Apart q to from → 0 < j → j ≤ b → (p r i : ℕ)
-          → rowAdded q (to .polynomial) (to .row + j) (from .polynomial) (from .row + (j + q - b - 1)) a ρ first p r i ≡ productRowAdded q to from j a b ρ S p r i
+          → rowAdded q (to .polynomial) (to .row + j) (from .polynomial) (from .row + (j + q - b - 1)) height a ρ first p r i ≡ productRowAdded q to from j height a b ρ S p r i
       unfolding productRowAdded rowAdded
       twice apart some low =
-          row-is q p₀ r₀ (plusProduct q to from a b ρ S j) S (withRows q p₀ r₀ 1 (λ n. more) first)
+          row-is q p₀ r₀ (plusProduct q to from height a b ρ S j) S (withRows q p₀ r₀ 1 (λ n. more) first)
           (λ i.
           row-here q p₀ r₀ more first i
-          ∙ plus-is q known (first p₀ r₀) ρ a (functionOf q from first (j + q - b - 1)) i
-          ∙ ap (λ (y : K). y ⊕ ρ ⊗ shift (symbols q) q a (functionOf q from first (j + q - b - 1)) i) (first-here i)
-          ∙ ap (λ (y : K). functionOf q to S j i ⊕ ρ ⊗ main i ⊕ ρ ⊗ y) (shift-cong (symbols q) q a i other)
+          ∙ plus-is q known (first p₀ r₀) ρ a (lowFunctionOf q height from first (j + q - b - 1)) i
+          ∙ ap (λ (y : K). y ⊕ ρ ⊗ shift (symbols q) q a (lowFunctionOf q height from first (j + q - b - 1)) i) (first-here i)
+          ∙ ap (λ (y : K). functionOf q to S j i ⊕ ρ ⊗ main i ⊕ ρ ⊗ y) (shift-cong (symbols q) q a i (λ n l. other n))
           ∙ add-assoc (laws-of q known) (functionOf q to S j i) (ρ ⊗ main i) (ρ ⊗ round i)
           ∙ ap (λ (y : K). functionOf q to S j i ⊕ y) (sym (mul-add (laws-of q known) ρ (main i) (round i)))
           ∙ ap (λ (y : K). functionOf q to S j i ⊕ ρ ⊗ y)
-          (sym (minus-is-plus q (main i) (round i)) ∙ sym (product-round (symbols q) q (functionOf q from S) (laws-of q known) a b j i hb some low))
+          (sym (minus-is-plus q (main i) (round i)) ∙ sym (product-round (symbols q) q (lowFunctionOf q height from S) (laws-of q known) a b j i hb some low))
           ∙ sym (plusProduct-is S j i))
           (λ p r i ne. row-there q p₀ r₀ more first p r i ne ∙ first-there p r i ne)
         where
@@ -98,23 +104,24 @@ module _ (q : ℕ) (known : Known q) where
           r₀ = to .row + j
 
           more : ℕ → K
-          more = plusMultiple q (first p₀ r₀) ρ a (functionOf q from first (j + q - b - 1))
+          more = plusMultiple q (first p₀ r₀) ρ a (lowFunctionOf q height from first (j + q - b - 1))
 
           round : ℕ → K
-          round i = shift (symbols q) q a (functionOf q from S (j + q - b - 1)) i
+          round i = shift (symbols q) q a (lowFunctionOf q height from S (j + q - b - 1)) i
 
-          other : (n : ℕ) → functionOf q from first (j + q - b - 1) n ≡ functionOf q from S (j + q - b - 1) n
-          other n = first-there (from .polynomial) (from .row + (j + q - b - 1)) n (λ e d. apart .rows j (j + q - b - 1) hj (omega arith) (sym e) (sym d))
+          other : (n : ℕ) → lowFunctionOf q height from first (j + q - b - 1) n ≡ lowFunctionOf q height from S (j + q - b - 1) n
+          other n = first-cong q height (functionOf q from first (j + q - b - 1)) (functionOf q from S (j + q - b - 1)) n
+              (first-there (from .polynomial) (from .row + (j + q - b - 1)) n (λ e d. apart .rows j (j + q - b - 1) hj (omega arith) (sym e) (sym d)))
 
     module _ (apart : Apart q to from) (S : Cells q) (n : ℕ) where
       abbrev done : Cells q
-      done = productAdded q to from a b ρ n S
+      done = productAdded q to from height a b ρ n S
 
       -- the rows to multiply are as they were
       untouched : (k i : ℕ) → n ≤ q → k < q → functionOf q from done k i ≡ functionOf q from S k i
       unfolding productAdded
       untouched k i hn hk =
-          rows-out q (to .polynomial) (to .row) n (plusProduct q to from a b ρ S) S (from .polynomial) (from .row + k) i
+          rows-out q (to .polynomial) (to .row) n (plusProduct q to from height a b ρ S) S (from .polynomial) (from .row + k) i
           (λ e. ⊎-elim
           (λ (h : from .row + k < to .row). inl h)
           (λ (h : to .row ≤ from .row + k). ⊎-elim
@@ -124,20 +131,20 @@ module _ (q : ℕ) (known : Known q) where
           (lt-or-ge (from .row + k) (to .row)))
 
       -- one more row of the part
-      pub product-more : n < q → (p r i : ℕ) → productRowAdded q to from n a b ρ done p r i ≡ productAdded q to from a b ρ (n + 1) S p r i
+      pub product-more : n < q → (p r i : ℕ) → productRowAdded q to from n height a b ρ done p r i ≡ productAdded q to from height a b ρ (n + 1) S p r i
       unfolding productRowAdded productAdded
       product-more hn =
-          rows-are q p₀ d (n + 1) F S (withRows q p₀ (d + n) 1 (λ m. plusProduct q to from a b ρ done n) done)
+          rows-are q p₀ d (n + 1) F S (withRows q p₀ (d + n) 1 (λ m. plusProduct q to from height a b ρ done n) done)
           (λ j i h. ⊎-elim
-          (λ (l : j < n). row-there q p₀ (d + n) (plusProduct q to from a b ρ done n) done p₀ (d + j) i (λ e z. omega arith) ∙ rows-in q p₀ d n F S j i l)
+          (λ (l : j < n). row-there q p₀ (d + n) (plusProduct q to from height a b ρ done n) done p₀ (d + j) i (λ e z. omega arith) ∙ rows-in q p₀ d n F S j i l)
           (λ (l : n ≤ j).
           let z : j ≡ n = omega arith in
           rw z
-          (row-here q p₀ (d + n) (plusProduct q to from a b ρ done n) done i
+          (row-here q p₀ (d + n) (plusProduct q to from height a b ρ done n) done i
           ∙ plusProduct-cong done S n i hn (rows-out q p₀ d n F S p₀ (d + n) i (λ e. inr (omega arith))) (λ k m hk. untouched k m (omega arith) hk)))
           (lt-or-ge j n))
           (λ p r i out.
-          row-there q p₀ (d + n) (plusProduct q to from a b ρ done n) done p r i
+          row-there q p₀ (d + n) (plusProduct q to from height a b ρ done n) done p r i
           (λ e z. ⊎-elim (λ (h : r < d). omega arith) (λ (h : d + (n + 1) ≤ r). omega arith) (out e))
           ∙ rows-out q p₀ d n F S p r i (λ e. ⊎-elim (λ (h : r < d). inl h) (λ (h : d + (n + 1) ≤ r). inr (omega arith)) (out e)))
         where
@@ -148,13 +155,13 @@ module _ (q : ℕ) (known : Known q) where
           d = to .row
 
           F : ℕ → ℕ → K
-          F = plusProduct q to from a b ρ S
+          F = plusProduct q to from height a b ρ S
 
     -- no row of the part yet
-    pub product-none : (S : Cells q) (p r i : ℕ) → S p r i ≡ productAdded q to from a b ρ 0 S p r i
+    pub product-none : (S : Cells q) (p r i : ℕ) → S p r i ≡ productAdded q to from height a b ρ 0 S p r i
     unfolding productAdded
     product-none S p r i =
-        sym (rows-out q (to .polynomial) (to .row) 0 (plusProduct q to from a b ρ S) S p r i
+        sym (rows-out q (to .polynomial) (to .row) 0 (plusProduct q to from height a b ρ S) S p r i
         (λ e. ⊎-elim (λ (h : r < to .row). inl h) (λ (h : to .row ≤ r). inr (omega arith)) (lt-or-ge r (to .row))))
 
   -- the two parts of a polynomial are apart
@@ -168,12 +175,12 @@ module _ (q : ℕ) (known : Known q) where
         rows = λ j k hj hk e d. omega arith;
       }
 
-  module _ (a b : ℕ) (ρ : K) where
+  module _ (heights : List ℕ) (a b : ℕ) (ρ : K) where
     -- in polynomial p the product for z looks at polynomial p alone
-    lower-cong : (S T : Cells q) (p : ℕ) → ((r i : ℕ) → S p r i ≡ T p r i) → (r i : ℕ)
-        → productAdded q (lowerOf q p) (upperOf q p) a b ρ q S p r i ≡ productAdded q (lowerOf q p) (upperOf q p) a b ρ q T p r i
+    lower-cong : (height : ℕ) (S T : Cells q) (p : ℕ) → ((r i : ℕ) → S p r i ≡ T p r i) → (r i : ℕ)
+        → productAdded q (lowerOf q p) (upperOf q p) height a b ρ q S p r i ≡ productAdded q (lowerOf q p) (upperOf q p) height a b ρ q T p r i
     unfolding productAdded
-    lower-cong S T p h r i =
+    lower-cong height S T p h r i =
         ⊎-elim
         (λ (l : r < q). outside (inl l))
         (λ (l : q ≤ r). ⊎-elim
@@ -181,50 +188,50 @@ module _ (q : ℕ) (known : Known q) where
         let z : r ≡ q + (r - q) = omega arith in
         rw z
         (rows-in q p q q (F S) S (r - q) i (omega arith)
-        ∙ plusProduct-cong (lowerOf q p) (upperOf q p) a b ρ S T (r - q) i (omega arith) (h (q + (r - q)) i) (λ k n hk. h (0 + k) n)
+        ∙ plusProduct-cong (lowerOf q p) (upperOf q p) height a b ρ S T (r - q) i (omega arith) (h (q + (r - q)) i) (λ k n hk. h (0 + k) n)
         ∙ sym (rows-in q p q q (F T) T (r - q) i (omega arith))))
         (λ (k : q + q ≤ r). outside (inr k))
         (lt-or-ge r (q + q)))
         (lt-or-ge r q)
       where
         F : Cells q → ℕ → ℕ → K
-        F = plusProduct q (lowerOf q p) (upperOf q p) a b ρ
+        F = plusProduct q (lowerOf q p) (upperOf q p) height a b ρ
 
         outside : (r < q) ⊎ (q + q ≤ r) → withRows q p q q (F S) S p r i ≡ withRows q p q q (F T) T p r i
         outside o = rows-out q p q q (F S) S p r i (λ e. o) ∙ h r i ∙ sym (rows-out q p q q (F T) T p r i (λ e. o))
 
     module _ (n : ℕ) (S : Cells q) where
       -- a polynomial in which z is replaced
-      pub replaced-yes : (p r i : ℕ) → p < n → replacedZ q a b ρ n S p r i ≡ productAdded q (lowerOf q p) (upperOf q p) a b ρ q S p r i
+      pub replaced-yes : (p r i : ℕ) → p < n → replacedZ q heights a b ρ n S p r i ≡ productAdded q (lowerOf q p) (upperOf q p) (getD heights p 0) a b ρ q S p r i
       unfolding replacedZ
       replaced-yes p r i h =
           subst (λ (t : Bool). _≡_ {A = K} (elim t [ true ↦ new | false ↦ S p r i ]) new) (sym (lt-ltb p n h)) refl
         where
           new : K
-          new = productAdded q (lowerOf q p) (upperOf q p) a b ρ q S p r i
+          new = productAdded q (lowerOf q p) (upperOf q p) (getD heights p 0) a b ρ q S p r i
 
       -- a polynomial in which it is not yet
-      pub replaced-no : (p r i : ℕ) → n ≤ p → replacedZ q a b ρ n S p r i ≡ S p r i
+      pub replaced-no : (p r i : ℕ) → n ≤ p → replacedZ q heights a b ρ n S p r i ≡ S p r i
       unfolding replacedZ
       replaced-no p r i h =
           subst (λ (t : Bool). _≡_ {A = K} (elim t [ true ↦ new | false ↦ S p r i ]) (S p r i)) (sym (le-ltb p n h)) refl
         where
           new : K
-          new = productAdded q (lowerOf q p) (upperOf q p) a b ρ q S p r i
+          new = productAdded q (lowerOf q p) (upperOf q p) (getD heights p 0) a b ρ q S p r i
 
     -- in no polynomial yet
-    pub replaced-none : (S : Cells q) (p r i : ℕ) → S p r i ≡ replacedZ q a b ρ 0 S p r i
+    pub replaced-none : (S : Cells q) (p r i : ℕ) → S p r i ≡ replacedZ q heights a b ρ 0 S p r i
     replaced-none S p r i = sym (replaced-no 0 S p r i (omega arith))
 
     -- in one polynomial more
     pub replaced-more : (n : ℕ) (S : Cells q) (p r i : ℕ)
-        → productAdded q (lowerOf q n) (upperOf q n) a b ρ q (replacedZ q a b ρ n S) p r i ≡ replacedZ q a b ρ (n + 1) S p r i
+        → productAdded q (lowerOf q n) (upperOf q n) (getD heights n 0) a b ρ q (replacedZ q heights a b ρ n S) p r i ≡ replacedZ q heights a b ρ (n + 1) S p r i
     unfolding productAdded
     replaced-more n S p r i =
         ⊎-elim
         (λ (e : p ≡ n).
         rw e
-        (lower-cong (replacedZ q a b ρ n S) S n (λ r i. replaced-no n S n r i (omega arith)) r i
+        (lower-cong (getD heights n 0) (replacedZ q heights a b ρ n S) S n (λ r i. replaced-no n S n r i (omega arith)) r i
         ∙ sym (replaced-yes (n + 1) S n r i (omega arith))))
         (λ ne. other ne ∙ ⊎-elim
         (λ (h : p < n). replaced-yes n S p r i h ∙ sym (replaced-yes (n + 1) S p r i (omega arith)))
@@ -232,8 +239,8 @@ module _ (q : ℕ) (known : Known q) where
         (lt-or-ge p n))
         (same-or-not p n)
       where
-        other : (p ≡ n → ⊥) → productAdded q (lowerOf q n) (upperOf q n) a b ρ q (replacedZ q a b ρ n S) p r i ≡ replacedZ q a b ρ n S p r i
-        other ne = rows-out q n q q (plusProduct q (lowerOf q n) (upperOf q n) a b ρ (replacedZ q a b ρ n S)) (replacedZ q a b ρ n S) p r i (λ e. absurd (ne e))
+        other : (p ≡ n → ⊥) → productAdded q (lowerOf q n) (upperOf q n) (getD heights n 0) a b ρ q (replacedZ q heights a b ρ n S) p r i ≡ replacedZ q heights a b ρ n S p r i
+        other ne = rows-out q n q q (plusProduct q (lowerOf q n) (upperOf q n) (getD heights n 0) a b ρ (replacedZ q heights a b ρ n S)) (replacedZ q heights a b ρ n S) p r i (λ e. absurd (ne e))
 
         above : (p ≡ n → ⊥) → n ≤ p → n + 1 ≤ p
         above ne h = ⊎-elim (λ (k : n < p). omega arith) (λ (k : p ≤ n). absurd (ne (omega arith))) (lt-or-ge n p)

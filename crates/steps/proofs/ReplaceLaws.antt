@@ -9,6 +9,7 @@ use native.Mathlib.Nat.{mod-lt, div-le-self}
 use native.Mathlib.Numerals.{add-one}
 use native.Mathlib.Omega.{arith}
 use lib.Dec.{eqb}
+use lib.ListN.{getD}
 use borrow.Author.Tests.{eq-eqb, ne-eqb}
 use Rattle.algebra.specs.Symbols.{Symbols}
 use Rattle.algebra.specs.Weights.{xPower, yPower, gap}
@@ -23,7 +24,9 @@ use Rattle.curve.specs.Answers.{monomialOf}
 use Rattle.published.specs.Start.{Polynomials, coefficient, polynomials, width, upper, lower}
 use Rattle.published.specs.Pairing.{Pairing}
 use Rattle.published.specs.Steps.{substitutedPart, substituted, changed, noPair, updated}
-use Rattle.steps.specs.Area.{cellsOf, functionOf, plusProduct, productAdded, upperOf, lowerOf, replacedZ}
+use Rattle.steps.specs.Area.{cellsOf, lowFunctionOf, plusProduct, productAdded, upperOf, lowerOf, replacedZ}
+use Rattle.steps.specs.Heights.{Below}
+use Rattle.steps.proofs.FirstSymbols.{first-all}
 use Rattle.steps.proofs.Cells.{rows-in, rows-out}
 use Rattle.steps.proofs.ProductCells.{product-cong, plusProduct-is, replaced-yes}
 use Rattle.steps.proofs.Coefficients.{upper-cell, lower-cell, upper-row, lower-row, cell-polynomials}
@@ -53,7 +56,7 @@ module _ (q : ℕ) (known : Known q) (S : Polynomials (symbols q) q) where
   infixl 70 _⊗_
   open Symbols (symbols q) using (K, _⊕_, _⊗_)
 
-  module _ (s : ℕ) (ω : K) where
+  module _ (heights : List ℕ) (below : Below q heights (cellsOf q S)) (s : ℕ) (ω : K) where
     lower-is : (p j i : ℕ) → substitutedPart (symbols q) q s ω S p lower j i
         ≡ coefficient (symbols q) q S p lower j i ⊕ ω ⊗ timesMonomial (symbols q) q s (coefficient (symbols q) q S p upper) j i
     unfolding substitutedPart
@@ -64,25 +67,28 @@ module _ (q : ℕ) (known : Known q) (S : Polynomials (symbols q) q) where
     upper-is p j i = refl
 
     -- a row of the upper part, and of the lower one
-    upper-new : (p r i : ℕ) → r < q → productAdded q (lowerOf q p) (upperOf q p) (xPower q s) (yPower q s) ω q (cellsOf q S) p r i
+    upper-new : (p r i : ℕ) → r < q → productAdded q (lowerOf q p) (upperOf q p) (getD heights p 0) (xPower q s) (yPower q s) ω q (cellsOf q S) p r i
         ≡ substitutedPart (symbols q) q s ω S p (r / q) (r % q) i
     unfolding productAdded
     upper-new p r i h =
-        rows-out q p q q (plusProduct q (lowerOf q p) (upperOf q p) (xPower q s) (yPower q s) ω (cellsOf q S)) (cellsOf q S) p r i (λ e. inl h)
+        rows-out q p q q (plusProduct q (lowerOf q p) (upperOf q p) (getD heights p 0) (xPower q s) (yPower q s) ω (cellsOf q S)) (cellsOf q S) p r i (λ e. inl h)
         ∙ sym (upper-cell q S p r i)
         ∙ sym (upper-is p r i)
         ∙ (rw (upper-row q r h .0, upper-row q r h .1))
 
-    lower-new : (p j i : ℕ) → j < q → productAdded q (lowerOf q p) (upperOf q p) (xPower q s) (yPower q s) ω q (cellsOf q S) p (q + j) i
+    lower-new : (p j i : ℕ) → p < 2 * q → j < q → i < width q → productAdded q (lowerOf q p) (upperOf q p) (getD heights p 0) (xPower q s) (yPower q s) ω q (cellsOf q S) p (q + j) i
         ≡ substitutedPart (symbols q) q s ω S p ((q + j) / q) ((q + j) % q) i
     unfolding productAdded timesMonomial
-    lower-new p j i h =
-        rows-in q p q q (plusProduct q (lowerOf q p) (upperOf q p) (xPower q s) (yPower q s) ω (cellsOf q S)) (cellsOf q S) j i h
-        ∙ plusProduct-is q known (lowerOf q p) (upperOf q p) (xPower q s) (yPower q s) ω (cellsOf q S) j i
-        ∙ ap (λ (y : K). y ⊕ ω ⊗ timesX (symbols q) q (xPower q s) (timesYs (symbols q) q (yPower q s) (functionOf q (upperOf q p) (cellsOf q S))) j i) (sym (lower-cell q S p j i))
+    lower-new p j i hp h hi =
+        rows-in q p q q (plusProduct q (lowerOf q p) (upperOf q p) (getD heights p 0) (xPower q s) (yPower q s) ω (cellsOf q S)) (cellsOf q S) j i h
+        ∙ plusProduct-is q known (lowerOf q p) (upperOf q p) (getD heights p 0) (xPower q s) (yPower q s) ω (cellsOf q S) j i
+        ∙ ap (λ (y : K). y ⊕ ω ⊗ timesX (symbols q) q (xPower q s) (timesYs (symbols q) q (yPower q s) (lowFunctionOf q (getD heights p 0) (upperOf q p) (cellsOf q S))) j i) (sym (lower-cell q S p j i))
         ∙ ap (λ (y : K). coefficient (symbols q) q S p lower j i ⊕ ω ⊗ y)
-        (product-cong q known (xPower q s) (yPower q s) (functionOf q (upperOf q p) (cellsOf q S)) (coefficient (symbols q) q S p upper)
-        (λ k n hk. let z : 0 + k ≡ k = omega arith in ap (λ (m : ℕ). cellsOf q S p m n) z ∙ sym (upper-cell q S p k n)) j i h)
+        (product-cong q known (xPower q s) (yPower q s) (lowFunctionOf q (getD heights p 0) (upperOf q p) (cellsOf q S)) (coefficient (symbols q) q S p upper) j i
+        (λ k n hk l.
+        let z : 0 + k ≡ k = omega arith in
+        first-all q (getD heights p 0) (cellsOf q S p (0 + k)) n (λ past. below .above p (0 + k) n hp (omega arith) (omega arith) past)
+        ∙ ap (λ (m : ℕ). cellsOf q S p m n) z ∙ sym (upper-cell q S p k n)) h)
         ∙ sym (lower-is p j i)
         ∙ (rw (lower-row q j h .0, lower-row q j h .1))
 
@@ -100,13 +106,13 @@ module _ (q : ℕ) (known : Known q) (S : Polynomials (symbols q) q) where
 
     -- "z becomes z + w·(monomial of s) in all 2q polynomials"
     pub substituted-cells : (number q ω ≡ 0 → ⊥) → (p r i : ℕ) → p < 2 * q → r < 2 * q → i < width q
-        → replacedZ q (xPower q s) (yPower q s) ω (2 * q) (cellsOf q S) p r i ≡ cellsOf q (substituted (symbols q) q s ω S) p r i
+        → replacedZ q heights (xPower q s) (yPower q s) ω (2 * q) (cellsOf q S) p r i ≡ cellsOf q (substituted (symbols q) q s ω S) p r i
     unfolding chosen
     substituted-cells ne p r i hp hr hi =
-        replaced-yes q known (xPower q s) (yPower q s) ω (2 * q) (cellsOf q S) p r i hp
+        replaced-yes q known heights (xPower q s) (yPower q s) ω (2 * q) (cellsOf q S) p r i hp
         ∙ ⊎-elim
         (λ (h : r < q). upper-new p r i h)
-        (λ (h : q ≤ r). let z : r ≡ q + (r - q) = omega arith in rw z (lower-new p (r - q) i (omega arith)))
+        (λ (h : q ≤ r). let z : r ≡ q + (r - q) = omega arith in rw z (lower-new p (r - q) i hp (omega arith) hi))
         (lt-or-ge r q)
         ∙ sym (cell-polynomials q (substitutedPart (symbols q) q s ω S) p r i hp hr hi)
         ∙ ap (λ (T : Polynomials (symbols q) q). cellsOf q T p r i) (sym (substituted-is false (ne-eqb _ _ ne)))

@@ -19,9 +19,10 @@ use Rattle.symbols.proofs.TableRules.{row-at}
 use Rattle.symbols.proofs.FieldLaws.{laws-of}
 use Rattle.symbols.proofs.Bytes.{number-of-sum, size-known}
 use Rattle.published.specs.Start.{width}
-use Rattle.steps.specs.Area.{sumByte, summed, raisedByte, exchangedAbove, exchangedBelow, rowPlace, Cells, shown, Multiplies, withRows, plusMultiple, raisedPlus, rowAdded}
+use Rattle.steps.specs.Area.{sumByte, summed, raisedByte, exchangedAbove, exchangedBelow, rowPlace, Cells, shown, Multiplies, withRows, firstSymbols, plusMultiple, raisedPlus, rowAdded}
 use Rattle.steps.proofs.Cells.{shown-read, shown-put}
 use Rattle.steps.proofs.Sizes.{sizes}
+use Rattle.steps.proofs.FirstSymbols.{first-in, first-out}
 
 module _ (q : ℕ) (known : Known q) where
   infixl 65 _⊕_
@@ -41,6 +42,13 @@ module _ (q : ℕ) (known : Known q) where
   plus-below a ρ c b i h =
       plus-is a ρ c b i
       ∙ ap (λ (y : K). a i ⊕ ρ ⊗ y) (shift-below (symbols q) q c b i h)
+      ∙ simp (mul-zero (laws-of q known), add-zero (laws-of q known))
+
+  -- past the first symbols of the row that is multiplied
+  plus-past : (a : ℕ → K) (ρ : K) (h c : ℕ) (b : ℕ → K) (i : ℕ) → h ≤ i → plusMultiple q a ρ c (firstSymbols q h b) (c + i) ≡ a (c + i)
+  plus-past a ρ h c b i l =
+      plus-above a ρ c (firstSymbols q h b) i
+      ∙ ap (λ (y : K). a (c + i) ⊕ ρ ⊗ y) (first-out q h b i l)
       ∙ simp (mul-zero (laws-of q known), add-zero (laws-of q known))
 
   -- x^c times a row plus a multiple of a row
@@ -67,47 +75,56 @@ module _ (q : ℕ) (known : Known q) where
     product : (i : ℕ) → i < width q → getD products (getD l (rowPlace q p′ r′ + i) 0 % 16) 0 ≡ number q (ρ ⊗ S p′ r′ i)
     product i h = rw (shown-read q S l rest e p′ r′ i hp′ hr′ h) (m .at (S p′ r′ i))
 
-    -- the bytes from the shift on are added
-    pub add-law : (c : ℕ) → c ≤ width q
-        → summed l (rowPlace q p r + c) (rowPlace q p′ r′) (width q - c) products ≡ shown q (rowAdded q p r p′ r′ c ρ S) ++ rest
-    unfolding summed rowAdded
-    add-law c h =
-        put-same l (to + c) n (sumByte l (to + c) from products) (λ i. v (c + i)) stored
-        ∙ ap (λ (w : List ℕ). put w (to + c) n (λ i. v (c + i))) (sym kept)
-        ∙ put-parts l to c n v
-        ∙ ap (λ (k : ℕ). put l to k v) (omega arith)
-        ∙ shown-put q S l rest e p r v F hp hr (λ i hi. refl)
-      where
-        to : ℕ
-        to = rowPlace q p r
+    -- of n bytes from the shift on the multiples are added: those of the first h symbols, as far as the row goes
+    module _ (h c n : ℕ) (within : c + n ≤ width q) (few : n ≤ h) (all : (h ≤ n) ⊎ (width q ≤ c + n)) where
+      abbrev to : ℕ
+      to = rowPlace q p r
 
-        from : ℕ
-        from = rowPlace q p′ r′
+      abbrev F : ℕ → K
+      F = plusMultiple q (S p r) ρ c (firstSymbols q h (S p′ r′))
 
-        n : ℕ
-        n = width q - c
+      v : ℕ → ℕ
+      v i = number q (F i)
 
-        F : ℕ → K
-        F = plusMultiple q (S p r) ρ c (S p′ r′)
+      kept-below : put l to c v ≡ l
+      unfolding v
+      kept-below = put-kept l to c v 0 (λ i hi. ap (number q) (plus-below (S p r) ρ c (firstSymbols q h (S p′ r′)) i hi) ∙ sym (byte i (omega arith)))
 
-        v : ℕ → ℕ
-        v i = number q (F i)
+      kept-above : (i : ℕ) → i < width q - (c + n) → v (c + n + i) ≡ getD l (to + (c + n) + i) 0
+      unfolding v
+      kept-above i hi =
+          let low : h ≤ n + i = ⊎-elim (λ (a : h ≤ n). omega arith) (λ (a : width q ≤ c + n). absurd (omega arith)) all in
+          ap (λ (k : ℕ). number q (F k)) (add-assoc c n i)
+          ∙ ap (number q) (plus-past (S p r) ρ h c (S p′ r′) (n + i) low)
+          ∙ ap (λ (k : ℕ). number q (S p r k)) (sym (add-assoc c n i))
+          ∙ sym (byte (c + n + i) (omega arith))
+          ∙ ap (λ (k : ℕ). getD l k 0) (sym (add-assoc to (c + n) i))
 
-        kept : put l to c v ≡ l
-        kept = put-kept l to c v 0 (λ i hi. ap (number q) (plus-below (S p r) ρ c (S p′ r′) i hi) ∙ sym (byte i (omega arith)))
+      stored : (i : ℕ) → i < n → sumByte l (to + c) (rowPlace q p′ r′) products i ≡ v (c + i)
+      unfolding v
+      stored i hi =
+          rw (add-assoc to c i, byte (c + i) (omega arith), product i (omega arith), plus-above (S p r) ρ c (firstSymbols q h (S p′ r′)) i, first-in q h (S p′ r′) i (omega arith))
+          (number-of-sum q known (S p r (c + i)) (ρ ⊗ S p′ r′ i))
 
-        stored : (i : ℕ) → i < n → sumByte l (to + c) from products i ≡ v (c + i)
-        stored i hi =
-            rw (add-assoc to c i, byte (c + i) (omega arith), product i (omega arith), plus-above (S p r) ρ c (S p′ r′) i)
-            (number-of-sum q known (S p r (c + i)) (ρ ⊗ S p′ r′ i))
+      pub add-law : summed l (to + c) (rowPlace q p′ r′) n products ≡ shown q (rowAdded q p r p′ r′ h c ρ S) ++ rest
+      unfolding summed rowAdded v
+      add-law =
+          put-same l (to + c) n (sumByte l (to + c) (rowPlace q p′ r′) products) (λ i. v (c + i)) stored
+          ∙ ap (λ (w : List ℕ). put w (to + c) n (λ i. v (c + i))) (sym kept-below)
+          ∙ put-parts l to c n v
+          ∙ ap (λ (w : List ℕ). put w to (c + n) v) (sym (put-kept l (to + (c + n)) (width q - (c + n)) (λ i. v (c + n + i)) 0 kept-above))
+          ∙ put-parts-back l to (c + n) (width q - (c + n)) v
+          ∙ ap (λ (k : ℕ). put l to k v) (omega arith)
+          ∙ shown-put q S l rest e p r v F hp hr (λ i hi. refl)
 
     -- past the width nothing is added
-    pub add-past : (c : ℕ) → width q ≤ c → l ≡ shown q (rowAdded q p r p′ r′ c ρ S) ++ rest
+    pub add-past : (h c : ℕ) → width q ≤ c → l ≡ shown q (rowAdded q p r p′ r′ h c ρ S) ++ rest
     unfolding rowAdded
-    add-past c h =
-        sym (put-kept l (rowPlace q p r) (width q) (λ i. number q (plusMultiple q (S p r) ρ c (S p′ r′) i)) 0
-        (λ i hi. ap (number q) (plus-below (S p r) ρ c (S p′ r′) i (omega arith)) ∙ sym (byte i hi)))
-        ∙ shown-put q S l rest e p r (λ i. number q (plusMultiple q (S p r) ρ c (S p′ r′) i)) (plusMultiple q (S p r) ρ c (S p′ r′)) hp hr (λ i hi. refl)
+    add-past h c wide =
+        let b = firstSymbols q h (S p′ r′) in
+        sym (put-kept l (rowPlace q p r) (width q) (λ i. number q (plusMultiple q (S p r) ρ c b i)) 0
+        (λ i hi. ap (number q) (plus-below (S p r) ρ c b i (omega arith)) ∙ sym (byte i hi)))
+        ∙ shown-put q S l rest e p r (λ i. number q (plusMultiple q (S p r) ρ c b i)) (plusMultiple q (S p r) ρ c b) hp hr (λ i hi. refl)
 
     module _ (apart : (rowPlace q p r + width q ≤ rowPlace q p′ r′) ⊎ (rowPlace q p′ r′ + width q ≤ rowPlace q p r)) where
       -- both rows' bytes replaced are the two rows exchanged

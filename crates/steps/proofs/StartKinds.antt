@@ -16,12 +16,13 @@ use Rattle.lists.proofs.Numbers.{lt-or-ge, same-or-not}
 use Rattle.symbols.specs.Rule.{Known, symbols, symbol}
 use Rattle.symbols.specs.Tables.{productRow}
 use Rattle.symbols.proofs.FieldLaws.{laws-of}
-use Rattle.published.specs.Start.{upper, lower, ofTable, vanishing, one, nothing, negated, startPart}
+use Rattle.published.specs.Start.{width, upper, lower, ofTable, vanishing, one, nothing, negated, startPart}
 use Rattle.published.proofs.Reading.{row-part, row-power}
 use Rattle.published.proofs.StartLeads.{startG-upper, startG-lower, startF-upper, startF-lower}
-use Rattle.steps.specs.Area.{Apart, Multiplies, Cells, functionOf, plusProduct, productAdded, upperOf, lowerOf}
+use Rattle.steps.specs.Area.{Apart, Multiplies, Cells, functionOf, lowFunctionOf, plusProduct, productAdded, upperOf, lowerOf}
 use Rattle.steps.specs.declared.products.Part.{Part}
 use Rattle.steps.specs.StartArea.{begun, multipleAdded}
+use Rattle.steps.proofs.FirstSymbols.{first-in}
 use Rattle.steps.proofs.Cells.{rows-in, rows-out}
 use Rattle.steps.proofs.RowLaws.{multiplies}
 use Rattle.steps.proofs.Turned.{timesYs-cong}
@@ -120,24 +121,27 @@ module _ (q : ℕ) (known : Known q) where
 
   -- y^b times a part put where zeros were
   made : (to from : Part) (b : ℕ) (S : Cells q) (F : Fn (symbols q) q) → ((j k : ℕ) → j < q → functionOf q to S j k ≡ 𝟘)
-      → ((j k : ℕ) → j < q → functionOf q from S j k ≡ F j k) → (j k : ℕ) → j < q
-      → productAdded q to from 0 b 𝟙 q S (to .polynomial) (to .row + j) k ≡ timesYs (symbols q) q b F j k
+      → ((j k : ℕ) → j < q → functionOf q from S j k ≡ F j k) → (j k : ℕ) → j < q → k < width q
+      → productAdded q to from (width q) 0 b 𝟙 q S (to .polynomial) (to .row + j) k ≡ timesYs (symbols q) q b F j k
   unfolding productAdded plusProduct timesX
-  made to from b S F empty is j k hj =
-      rows-in q (to .polynomial) (to .row) q (plusProduct q to from 0 b 𝟙 S) S j k hj
-      ∙ ap (λ (y : K). y ⊕ 𝟙 ⊗ timesX (symbols q) q 0 (timesYs (symbols q) q b (functionOf q from S)) j k) (empty j k hj)
-      ∙ plain (timesX (symbols q) q 0 (timesYs (symbols q) q b (functionOf q from S)) j k)
-      ∙ shift-zero (symbols q) q (timesYs (symbols q) q b (functionOf q from S) j) k
-      ∙ timesYs-cong (symbols q) q (functionOf q from S) F is b j k hj
+  made to from b S F empty is j k hj hk =
+      rows-in q (to .polynomial) (to .row) q (plusProduct q to from (width q) 0 b 𝟙 S) S j k hj
+      ∙ ap (λ (y : K). y ⊕ 𝟙 ⊗ timesX (symbols q) q 0 (timesYs (symbols q) q b low) j k) (empty j k hj)
+      ∙ plain (timesX (symbols q) q 0 (timesYs (symbols q) q b low) j k)
+      ∙ shift-zero (symbols q) q (timesYs (symbols q) q b low j) k
+      ∙ timesYs-cong (symbols q) q low F b j k (λ m n hm hn. first-in q (width q) (functionOf q from S m) n (omega arith) ∙ is m n hm) hj
     where
+      low : Fn (symbols q) q
+      low = lowFunctionOf q (width q) from S
+
       plain : (y : K) → 𝟘 ⊕ 𝟙 ⊗ y ≡ y
       plain y = simp (ring, laws-of q known)
 
   -- the rows of other parts stay
   kept : (to from : Part) (b : ℕ) (S : Cells q) (p r k : ℕ) → (p ≡ to .polynomial → (r < to .row) ⊎ (to .row + q ≤ r))
-      → productAdded q to from 0 b 𝟙 q S p r k ≡ S p r k
+      → productAdded q to from (width q) 0 b 𝟙 q S p r k ≡ S p r k
   unfolding productAdded
-  kept to from b S p r k out = rows-out q (to .polynomial) (to .row) q (plusProduct q to from 0 b 𝟙 S) S p r k out
+  kept to from b S p r k out = rows-out q (to .polynomial) (to .row) q (plusProduct q to from (width q) 0 b 𝟙 S) S p r k out
 
   module _ (H : List (List K)) (i : ℕ) (some : 0 < i) (hi : i < q) where
     abbrev S₀ : Cells q
@@ -164,65 +168,65 @@ module _ (q : ℕ) (known : Known q) where
     kept₃ p r k out = kept (lowerOf q (q + i)) (lowerOf q q) i S₂ p r k (λ e. inl (out e))
 
     -- the lower part of g_i
-    g-made : (j k : ℕ) → j < q → S₃ i (q + j) k ≡ timesYs (symbols q) q i (vanishing (symbols q) q) j k
+    g-made : (j k : ℕ) → j < q → k < width q → S₃ i (q + j) k ≡ timesYs (symbols q) q i (vanishing (symbols q) q) j k
     unfolding timesYs
-    g-made j k hj =
+    g-made j k hj hk =
         kept₃ i (q + j) k (λ e. absurd (omega arith)) ∙ kept₂ i (q + j) k (λ e. absurd (omega arith))
         ∙ ap (λ (p : ℕ). S₁ p (q + j) k) (sym (zero-add i))
         ∙ made (lowerOf q (0 + i)) (lowerOf q 0) i S₀ (vanishing (symbols q) q)
         (λ j k hj. begun-out H i (0 + i) (q + j) k (rw (zero-add i, mod-eq-of-lt hi) (omega arith)))
         (λ j k hj. g-lower H i 0 some (omega arith) j k hj)
-        j k hj
+        j k hj hk
 
     -- f_0 is at polynomial q
     zeroth : q ≡ q + 0
     zeroth = omega arith
 
     -- the upper part of f_i
-    f-upper-made : (j k : ℕ) → j < q → S₃ (q + i) (0 + j) k ≡ timesYs (symbols q) q i (one (symbols q) q) j k
+    f-upper-made : (j k : ℕ) → j < q → k < width q → S₃ (q + i) (0 + j) k ≡ timesYs (symbols q) q i (one (symbols q) q) j k
     unfolding timesYs
-    f-upper-made j k hj =
+    f-upper-made j k hj hk =
         kept₃ (q + i) (0 + j) k (λ e. omega arith)
         ∙ made (upperOf q (q + i)) (upperOf q q) i S₁ (one (symbols q) q)
         (λ j k hj. kept₁ (q + i) (0 + j) k (λ e. absurd (omega arith)) ∙ begun-out H i (q + i) (0 + j) k (rw (second i hi) (omega arith)))
         (λ j k hj. kept₁ q (0 + j) k (λ e. omega arith) ∙ ap (λ (p : ℕ). S₀ p (0 + j) k) zeroth ∙ f-upper H i 0 some (omega arith) j k hj)
-        j k hj
+        j k hj hk
 
     -- the lower part of f_i
-    f-lower-made : (j k : ℕ) → j < q → S₃ (q + i) (q + j) k ≡ timesYs (symbols q) q i (negated (symbols q) q (ofTable (symbols q) q H)) j k
+    f-lower-made : (j k : ℕ) → j < q → k < width q → S₃ (q + i) (q + j) k ≡ timesYs (symbols q) q i (negated (symbols q) q (ofTable (symbols q) q H)) j k
     unfolding timesYs
-    f-lower-made j k hj =
+    f-lower-made j k hj hk =
         made (lowerOf q (q + i)) (lowerOf q q) i S₂ (negated (symbols q) q (ofTable (symbols q) q H))
         (λ j k hj. kept₂ (q + i) (q + j) k (λ e. omega arith) ∙ kept₁ (q + i) (q + j) k (λ e. absurd (omega arith)) ∙ begun-out H i (q + i) (q + j) k (rw (second i hi) (omega arith)))
         (λ j k hj. kept₂ q (q + j) k (λ e. omega arith) ∙ kept₁ q (q + j) k (λ e. absurd (omega arith)) ∙ ap (λ (p : ℕ). S₀ p (q + j) k) zeroth ∙ f-lower H i 0 some (omega arith) j k hj)
-        j k hj
+        j k hj hk
 
     -- all rows of g_i
-    g-all : (r k : ℕ) → r < 2 * q → S₃ i r k ≡ begun q H (i + 1) i r k
-    g-all r k =
+    g-all : (r k : ℕ) → k < width q → r < 2 * q → S₃ i r k ≡ begun q H (i + 1) i r k
+    g-all r k hk =
         each-row q (λ r. S₃ i r k ≡ begun q H (i + 1) i r k)
         (λ j hj.
         kept₃ i (0 + j) k (λ z. absurd (omega arith)) ∙ kept₂ i (0 + j) k (λ z. absurd (omega arith)) ∙ kept₁ i (0 + j) k (λ z. omega arith)
         ∙ begun-out H i i (0 + j) k (rw (mod-eq-of-lt hi) (omega arith))
         ∙ sym (g-upper H (i + 1) i (omega arith) hi j k hj))
-        (λ j hj. g-made j k hj ∙ sym (g-lower H (i + 1) i (omega arith) hi j k hj))
+        (λ j hj. g-made j k hj hk ∙ sym (g-lower H (i + 1) i (omega arith) hi j k hj))
         r
 
     -- all rows of f_i
-    f-all : (r k : ℕ) → r < 2 * q → S₃ (q + i) r k ≡ begun q H (i + 1) (q + i) r k
-    f-all r k =
+    f-all : (r k : ℕ) → k < width q → r < 2 * q → S₃ (q + i) r k ≡ begun q H (i + 1) (q + i) r k
+    f-all r k hk =
         each-row q (λ r. S₃ (q + i) r k ≡ begun q H (i + 1) (q + i) r k)
-        (λ j hj. f-upper-made j k hj ∙ sym (f-upper H (i + 1) i (omega arith) hi j k hj))
-        (λ j hj. f-lower-made j k hj ∙ sym (f-lower H (i + 1) i (omega arith) hi j k hj))
+        (λ j hj. f-upper-made j k hj hk ∙ sym (f-upper H (i + 1) i (omega arith) hi j k hj))
+        (λ j hj. f-lower-made j k hj hk ∙ sym (f-lower H (i + 1) i (omega arith) hi j k hj))
         r
 
     -- one more of each kind
-    pub begun-more : (p r k : ℕ) → p < 2 * q → r < 2 * q → S₃ p r k ≡ begun q H (i + 1) p r k
-    begun-more p r k hp hr =
+    pub begun-more : (p r k : ℕ) → p < 2 * q → r < 2 * q → k < width q → S₃ p r k ≡ begun q H (i + 1) p r k
+    begun-more p r k hp hr hk =
         ⊎-elim
-        (λ (e : p ≡ i). rw e (g-all r k hr))
+        (λ (e : p ≡ i). rw e (g-all r k hk hr))
         (λ (ng : p ≡ i → ⊥). ⊎-elim
-        (λ (e : p ≡ q + i). rw e (f-all r k hr))
+        (λ (e : p ≡ q + i). rw e (f-all r k hk hr))
         (λ (nf : p ≡ q + i → ⊥).
         kept₃ p r k (λ z. absurd (nf z)) ∙ kept₂ p r k (λ z. absurd (nf z)) ∙ kept₁ p r k (λ z. absurd (ng z)) ∙ begun-else H i p r k hp ng nf)
         (same-or-not p (q + i)))

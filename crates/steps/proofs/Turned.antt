@@ -35,12 +35,12 @@ module _ (𝓢 : Symbols) (q : ℕ) where
   infixl 65 _⊖_
   open Symbols 𝓢 using (K, 𝟘, _⊖_)
 
-  -- x^c times polynomials with equal coefficients
-  pub shift-cong : (c : ℕ) {f g : ℕ → K} (i : ℕ) → ((n : ℕ) → f n ≡ g n) → shift 𝓢 q c f i ≡ shift 𝓢 q c g i
+  -- x^c times polynomials with equal coefficients, as far as they are looked at
+  pub shift-cong : (c : ℕ) {f g : ℕ → K} (i : ℕ) → ((n : ℕ) → n ≤ i → f n ≡ g n) → shift 𝓢 q c f i ≡ shift 𝓢 q c g i
   shift-cong c {f} {g} i h =
       ⊎-elim
       (λ (b : i < c). shift-below 𝓢 q c f i b ∙ sym (shift-below 𝓢 q c g i b))
-      (λ (b : c ≤ i). shift-at 𝓢 q c f i b ∙ h (i - c) ∙ sym (shift-at 𝓢 q c g i b))
+      (λ (b : c ≤ i). shift-at 𝓢 q c f i b ∙ h (i - c) (omega arith) ∙ sym (shift-at 𝓢 q c g i b))
       (lt-or-ge i c)
 
   -- x^a times x^c times a polynomial
@@ -70,15 +70,16 @@ module _ (𝓢 : Symbols) (q : ℕ) where
       ∙ sym (ap (λ (y : K). y ⊖ shift 𝓢 q a g i) (shift-at 𝓢 q a f i h) ∙ ap (λ (y : K). f (i - a) ⊖ y) (shift-at 𝓢 q a g i h)))
       (lt-or-ge i a)
 
-  -- y^b times functions that agree in the powers of y below q
-  pub timesYs-cong : (F G : Fn 𝓢 q) → ((j i : ℕ) → j < q → F j i ≡ G j i) → (b j i : ℕ) → j < q → timesYs 𝓢 q b F j i ≡ timesYs 𝓢 q b G j i
+  -- y^b times functions that agree in the powers of y below q, as far as they are looked at
+  pub timesYs-cong : (F G : Fn 𝓢 q) (b j i : ℕ) → ((k n : ℕ) → k < q → n ≤ i → F k n ≡ G k n) → j < q → timesYs 𝓢 q b F j i ≡ timesYs 𝓢 q b G j i
   unfolding timesYs timesY
-  timesYs-cong F G h zero j i k = h j i k
-  timesYs-cong F G h (suc b) zero i k = shift-cong (q + 1) i (λ n. timesYs-cong F G h b (q - 1) n (omega arith))
-  timesYs-cong F G h (suc b) (suc zero) i k =
-      ap (λ (y : K). y ⊖ timesYs 𝓢 q b F (q - 1) i) (timesYs-cong F G h b 0 i (omega arith))
-      ∙ ap (λ (y : K). timesYs 𝓢 q b G 0 i ⊖ y) (timesYs-cong F G h b (q - 1) i (omega arith))
-  timesYs-cong F G h (suc b) (suc (suc j)) i k = timesYs-cong F G h b (suc j) i (omega arith)
+  timesYs-cong F G zero j i h k = h j i k (omega arith)
+  timesYs-cong F G (suc b) zero i h k =
+      shift-cong (q + 1) i (λ n l. timesYs-cong F G b (q - 1) n (λ j m hj hm. h j m hj (omega arith)) (omega arith))
+  timesYs-cong F G (suc b) (suc zero) i h k =
+      ap (λ (y : K). y ⊖ timesYs 𝓢 q b F (q - 1) i) (timesYs-cong F G b 0 i h (omega arith))
+      ∙ ap (λ (y : K). timesYs 𝓢 q b G 0 i ⊖ y) (timesYs-cong F G b (q - 1) i h (omega arith))
+  timesYs-cong F G (suc b) (suc (suc j)) i h k = timesYs-cong F G b (suc j) i h (omega arith)
 
   -- y^0 and y^(b+1)
   timesYs-zero : (F : Fn 𝓢 q) (j i : ℕ) → timesYs 𝓢 q 0 F j i ≡ F j i
@@ -127,7 +128,7 @@ module _ (𝓢 : Symbols) (q : ℕ) where
         timesYs-suc F b 0 i
         ∙ timesY-zero 𝓢 q (timesYs 𝓢 q b F) i
         ∙ shift-cong (q + 1) i
-        (λ n. plain b (q - 1) n (omega arith) (omega arith) (inr (omega arith))
+        (λ n l. plain b (q - 1) n (omega arith) (omega arith) (inr (omega arith))
         ∙ main-plain b (q - 1) n (omega arith)
         ∙ ap (λ (m : ℕ). F m n) {x = q - 1 - b} {y = 0 + q - suc b} (omega arith))
         ∙ sym (main-turned (suc b) 0 i (omega arith))
@@ -160,13 +161,13 @@ module _ (𝓢 : Symbols) (q : ℕ) where
         → timesX 𝓢 q a (timesYs 𝓢 q b F) j i ≡ shift 𝓢 q (a + sourceShift q b j) (F (sourceRow q b j)) i
     unfolding timesX main
     product-plain a b j i hb hj o =
-        shift-cong a i (λ n. plain b j n hb hj o) ∙ shift-shift a (sourceShift q b j) (F (sourceRow q b j)) i
+        shift-cong a i (λ n l. plain b j n hb hj o) ∙ shift-shift a (sourceShift q b j) (F (sourceRow q b j)) i
 
     pub product-round : Laws 𝓢 q → (a b j i : ℕ) → b < q → 0 < j → j ≤ b
         → timesX 𝓢 q a (timesYs 𝓢 q b F) j i
         ≡ shift 𝓢 q (a + sourceShift q b j) (F (sourceRow q b j)) i ⊖ shift 𝓢 q a (F (j + q - b - 1)) i
     unfolding timesX main
     product-round 𝓛 a b j i hb hj h =
-        shift-cong a i (λ n. round b j n hb hj h)
+        shift-cong a i (λ n l. round b j n hb hj h)
         ∙ shift-sub 𝓛 a (main b j) (F (j + q - b - 1)) i
         ∙ ap (λ (y : K). y ⊖ shift 𝓢 q a (F (j + q - b - 1)) i) (shift-shift a (sourceShift q b j) (F (sourceRow q b j)) i)

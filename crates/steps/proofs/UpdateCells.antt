@@ -8,8 +8,9 @@ use Rattle.algebra.specs.Symbols.{Symbols}
 use Rattle.algebra.specs.Functions.{shift}
 use Rattle.lists.proofs.Numbers.{lt-or-ge, same-or-not}
 use Rattle.symbols.specs.Rule.{Known, symbols}
-use Rattle.steps.specs.Area.{Cells, withRows, plusMultiple, raisedPlus, rowAdded, rowExchanged, polynomialAdded, polynomialsExchanged}
+use Rattle.steps.specs.Area.{Cells, withRows, firstSymbols, rowHeight, plusMultiple, raisedPlus, rowAdded, rowExchanged, polynomialAdded, polynomialsExchanged}
 use Rattle.steps.proofs.Cells.{rows-in, rows-out, rows-are, row-here, row-there}
+use Rattle.steps.proofs.FirstSymbols.{first-cong}
 use Rattle.steps.proofs.RowLaws.{plus-is, raised-is}
 use Rattle.steps.proofs.Turned.{shift-cong}
 
@@ -27,25 +28,27 @@ module _ (q : ℕ) (known : Known q) (f g c : ℕ) (apart : f ≡ g → ⊥) (ρ
   plus-cong a a′ b b′ i ea eb =
       plus-is q known a ρ c b i
       ∙ ap (λ (y : K). y ⊕ ρ ⊗ shift (symbols q) q c b i) ea
-      ∙ ap (λ (y : K). a′ i ⊕ ρ ⊗ y) (shift-cong (symbols q) q c i eb)
+      ∙ ap (λ (y : K). a′ i ⊕ ρ ⊗ y) (shift-cong (symbols q) q c i (λ n l. eb n))
       ∙ sym (plus-is q known a′ ρ c b′ i)
 
   raised-cong : (a a′ b b′ : ℕ → K) (i : ℕ) → ((n : ℕ) → a n ≡ a′ n) → b i ≡ b′ i → raisedPlus q a ρ c b i ≡ raisedPlus q a′ ρ c b′ i
   raised-cong a a′ b b′ i ea eb =
       raised-is q known a ρ c b i
-      ∙ ap (λ (y : K). y ⊕ ρ ⊗ b i) (shift-cong (symbols q) q c i ea)
+      ∙ ap (λ (y : K). y ⊕ ρ ⊗ b i) (shift-cong (symbols q) q c i (λ n l. ea n))
       ∙ ap (λ (y : K). shift (symbols q) q c a′ i ⊕ ρ ⊗ y) eb
       ∙ sym (raised-is q known a′ ρ c b′ i)
 
   module _ (S : Cells q) where
     -- f + ρ·x^c·g: no row yet, and one row more
-    pub added-none : (p r i : ℕ) → S p r i ≡ polynomialAdded q f g c ρ 0 S p r i
+    pub added-none : (height p r i : ℕ) → S p r i ≡ polynomialAdded q f g height c ρ 0 S p r i
     unfolding polynomialAdded
-    added-none p r i = sym (rows-out q f 0 0 (λ r. plusMultiple q (S f r) ρ c (S g r)) S p r i (λ e. none 0 r))
+    added-none height p r i =
+        sym (rows-out q f 0 0 (λ r. plusMultiple q (S f r) ρ c (firstSymbols q (rowHeight q height r) (S g r))) S p r i (λ e. none 0 r))
 
-    pub added-more : (n p r i : ℕ) → rowAdded q f n g n c ρ (polynomialAdded q f g c ρ n S) p r i ≡ polynomialAdded q f g c ρ (n + 1) S p r i
+    pub added-more : (height n p r i : ℕ)
+        → rowAdded q f n g n (rowHeight q height n) c ρ (polynomialAdded q f g height c ρ n S) p r i ≡ polynomialAdded q f g height c ρ (n + 1) S p r i
     unfolding polynomialAdded rowAdded
-    added-more n =
+    added-more height n =
         rows-are q f 0 (n + 1) F S (withRows q f n 1 (λ m. new) done)
         (λ j i h. ⊎-elim
         (λ (l : j < n). row-there q f n new done f (0 + j) i (λ e z. omega arith) ∙ rows-in q f 0 n F S j i l)
@@ -54,20 +57,24 @@ module _ (q : ℕ) (known : Known q) (f g c : ℕ) (apart : f ≡ g → ⊥) (ρ
         let y : 0 + n ≡ n = omega arith in
         rw (z, y)
         (row-here q f n new done i
-        ∙ plus-cong (done f n) (S f n) (done g n) (S g n) i (old f n i (λ e. inr (omega arith))) (λ m. old g n m (λ e. absurd (apart (sym e))))))
+        ∙ plus-cong (done f n) (S f n) (first (done g n)) (first (S g n)) i (old f n i (λ e. inr (omega arith)))
+        (λ m. first-cong q (rowHeight q height n) (done g n) (S g n) m (old g n m (λ e. absurd (apart (sym e)))))))
         (lt-or-ge j n))
         (λ p r i out.
         row-there q f n new done p r i (λ e z. ⊎-elim (λ (h : r < 0). omega arith) (λ (h : 0 + (n + 1) ≤ r). omega arith) (out e))
         ∙ old p r i (λ e. ⊎-elim (λ (h : r < 0). inl h) (λ (h : 0 + (n + 1) ≤ r). inr (omega arith)) (out e)))
       where
         F : ℕ → ℕ → K
-        F r = plusMultiple q (S f r) ρ c (S g r)
+        F r = plusMultiple q (S f r) ρ c (firstSymbols q (rowHeight q height r) (S g r))
+
+        first : (ℕ → K) → ℕ → K
+        first = firstSymbols q (rowHeight q height n)
 
         done : Cells q
         done = withRows q f 0 n F S
 
         new : ℕ → K
-        new = plusMultiple q (done f n) ρ c (done g n)
+        new = plusMultiple q (done f n) ρ c (first (done g n))
 
         old : (p r i : ℕ) → (p ≡ f → (r < 0) ⊎ (0 + n ≤ r)) → done p r i ≡ S p r i
         old = rows-out q f 0 n F S

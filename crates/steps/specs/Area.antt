@@ -117,13 +117,17 @@ module _ (q : ℕ) where
   withRows p d n F S p′ r i =
       elim (eqb p′ p && (leb d r && ltb r (d + n))) [ true ↦ F (r - d) i | false ↦ S p′ r i ]
 
+  -- the first h symbols of a row, and zeros
+  unfoldable pub firstSymbols : ℕ → (ℕ → K) → ℕ → K
+  firstSymbols h a i = elim (ltb i h) [ true ↦ a i | false ↦ 𝟘 ]
+
   -- a row plus ρ·x^c times a row
   unfoldable pub plusMultiple : (ℕ → K) → K → ℕ → (ℕ → K) → ℕ → K
   plusMultiple a ρ c b i = a i ⊕ ρ ⊗ shift (symbols q) q c b i
 
-  -- row r of polynomial p becomes itself plus ρ·x^c times row r′ of polynomial p′
-  unfoldable pub rowAdded : ℕ → ℕ → ℕ → ℕ → ℕ → K → Cells → Cells
-  rowAdded p r p′ r′ c ρ S = withRows p r 1 (λ n. plusMultiple (S p r) ρ c (S p′ r′)) S
+  -- row r of polynomial p becomes itself plus ρ·x^c times the first h symbols of row r′ of polynomial p′
+  unfoldable pub rowAdded : ℕ → ℕ → ℕ → ℕ → ℕ → ℕ → K → Cells → Cells
+  rowAdded p r p′ r′ h c ρ S = withRows p r 1 (λ n. plusMultiple (S p r) ρ c (firstSymbols h (S p′ r′))) S
 
   -- x^c times a row plus ρ times a row
   unfoldable pub raisedPlus : (ℕ → K) → K → ℕ → (ℕ → K) → ℕ → K
@@ -133,9 +137,13 @@ module _ (q : ℕ) where
   unfoldable pub rowExchanged : ℕ → ℕ → ℕ → ℕ → K → Cells → Cells
   rowExchanged f g r c ρ S = withRows g r 1 (λ n. S f r) (withRows f r 1 (λ n. raisedPlus (S f r) ρ c (S g r)) S)
 
-  -- n rows of polynomial f become themselves plus ρ·x^c times those of polynomial g
-  unfoldable pub polynomialAdded : ℕ → ℕ → ℕ → K → ℕ → Cells → Cells
-  polynomialAdded f g c ρ n S = withRows f 0 n (λ r. plusMultiple (S f r) ρ c (S g r)) S
+  -- how many symbols of a row are added: h of an upper row, all of a lower one
+  unfoldable pub rowHeight : ℕ → ℕ → ℕ
+  rowHeight h r = elim (ltb r q) [ true ↦ h | false ↦ width q ]
+
+  -- n rows of polynomial f become themselves plus ρ·x^c times those of polynomial g, of the upper rows the first h symbols
+  unfoldable pub polynomialAdded : ℕ → ℕ → ℕ → ℕ → K → ℕ → Cells → Cells
+  polynomialAdded f g h c ρ n S = withRows f 0 n (λ r. plusMultiple (S f r) ρ c (firstSymbols (rowHeight h r) (S g r))) S
 
   -- n rows of polynomial f become x^c times themselves plus ρ times those of g, and those of g become those of f
   unfoldable pub polynomialsExchanged : ℕ → ℕ → ℕ → K → ℕ → Cells → Cells
@@ -145,17 +153,21 @@ module _ (q : ℕ) where
   abbrev pub functionOf : Part → Cells → Fn (symbols q) q
   functionOf part S j i = S (part .polynomial) (part .row + j) i
 
-  -- row j of a part plus ρ·x^a·y^b times a part
-  unfoldable pub plusProduct : Part → Part → ℕ → ℕ → K → Cells → ℕ → ℕ → K
-  plusProduct to from a b ρ S j i = functionOf to S j i ⊕ ρ ⊗ timesX (symbols q) q a (timesYs (symbols q) q b (functionOf from S)) j i
+  -- the first h symbols of each of its rows
+  abbrev pub lowFunctionOf : ℕ → Part → Cells → Fn (symbols q) q
+  lowFunctionOf h part S j = firstSymbols h (functionOf part S j)
+
+  -- row j of a part plus ρ·x^a·y^b times the first h symbols of the rows of a part
+  unfoldable pub plusProduct : Part → Part → ℕ → ℕ → ℕ → K → Cells → ℕ → ℕ → K
+  plusProduct to from h a b ρ S j i = functionOf to S j i ⊕ ρ ⊗ timesX (symbols q) q a (timesYs (symbols q) q b (lowFunctionOf h from S)) j i
 
   -- row j of a part becomes that
-  unfoldable pub productRowAdded : Part → Part → ℕ → ℕ → ℕ → K → Cells → Cells
-  productRowAdded to from j a b ρ S = withRows (to .polynomial) (to .row + j) 1 (λ n. plusProduct to from a b ρ S j) S
+  unfoldable pub productRowAdded : Part → Part → ℕ → ℕ → ℕ → ℕ → K → Cells → Cells
+  productRowAdded to from j h a b ρ S = withRows (to .polynomial) (to .row + j) 1 (λ n. plusProduct to from h a b ρ S j) S
 
   -- the first n rows of a part become that
-  unfoldable pub productAdded : Part → Part → ℕ → ℕ → K → ℕ → Cells → Cells
-  productAdded to from a b ρ n S = withRows (to .polynomial) (to .row) n (plusProduct to from a b ρ S) S
+  unfoldable pub productAdded : Part → Part → ℕ → ℕ → ℕ → K → ℕ → Cells → Cells
+  productAdded to from h a b ρ n S = withRows (to .polynomial) (to .row) n (plusProduct to from h a b ρ S) S
 
   -- the parts of polynomial p
   abbrev pub upperOf : ℕ → Part
@@ -164,9 +176,14 @@ module _ (q : ℕ) where
   abbrev pub lowerOf : ℕ → Part
   lowerOf p = record { polynomial = p; row = q }
 
-  -- z becomes z + ρ·x^a·y^b in the first n polynomials
-  unfoldable pub replacedZ : ℕ → ℕ → K → ℕ → Cells → Cells
-  replacedZ a b ρ n S p r i = elim (ltb p n) [ true ↦ productAdded (lowerOf p) (upperOf p) a b ρ q S p r i | false ↦ S p r i ]
+  -- z becomes z + ρ·x^a·y^b in the first n polynomials, for the first symbols of their upper rows, by the polynomials' heights
+  unfoldable pub replacedZ : List ℕ → ℕ → ℕ → K → ℕ → Cells → Cells
+  replacedZ heights a b ρ n S p r i =
+      elim (ltb p n) [ true ↦ productAdded (lowerOf p) (upperOf p) (getD heights p 0) a b ρ q S p r i | false ↦ S p r i ]
+
+  -- a row with no symbol but zero from h on, as far as rows are held
+  pub record Short (h : ℕ) (row : ℕ → K) : Type 0 where
+    pub zeros : (i : ℕ) → h ≤ i → i < width q → row i ≡ 𝟘
 
   -- the degree of a row, and the symbol there
   pub record LeadingOf (lead : Leading) (row : ℕ → K) : Type 0 where

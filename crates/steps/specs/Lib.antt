@@ -1,4 +1,5 @@
 pub mod Area
+pub mod Heights
 pub mod Pairs
 pub mod Stop
 pub mod Step

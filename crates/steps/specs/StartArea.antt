@@ -14,7 +14,7 @@ use Rattle.algebra.specs.Interpolation.{unit, xPart, yPart}
 use Rattle.lists.specs.Tables.{put}
 use Rattle.symbols.specs.Rule.{symbols, number}
 use Rattle.curve.specs.Points.{pointAt}
-use Rattle.published.specs.Start.{vanishing, one, startPart}
+use Rattle.published.specs.Start.{width, vanishing, one, startPart}
 use Rattle.steps.specs.Area.{Cells, withRows, productAdded}
 
 -- the byte at `to` plus a value times what `products` is the table row of
@@ -71,4 +71,4 @@ module _ (q : ℕ) where
 
   -- y^i times a part of polynomial `first` added to that of the polynomial i places on
   abbrev pub multipleAdded : ℕ → ℕ → ℕ → Cells q → Cells q
-  multipleAdded first row i = productAdded q (record { polynomial = first + i; row = row }) (record { polynomial = first; row = row }) 0 i 𝟙 q
+  multipleAdded first row i = productAdded q (record { polynomial = first + i; row = row }) (record { polynomial = first; row = row }) (width q) 0 i 𝟙 q

@@ -6,6 +6,8 @@ use Prim.Native.Nat.{ℕ, _+_, _-_}
 use Rattle.symbols.specs.Rule.{symbols, number}
 use Rattle.published.specs.Start.{startWeight}
 use Rattle.published.specs.Meaning.{voteOn}
+use Rattle.steps.specs.Area.{cellsOf}
+use Rattle.steps.specs.Heights.{Below}
 use Rattle.steps.specs.Stop.{stateAfter, pictureAfter}
 
 -- "vote w" of the step after t steps, as a number; that step is at the start weight less t
@@ -16,3 +18,7 @@ voteAfter q u row t = number q (voteOn (symbols q) q u (startWeight q - t) (stat
 pub record Stepped (q u : ℕ) (row : List ℕ) (t : ℕ) (rest : List ℕ) (vote : ℕ) (work : List ℕ) : Type 0 where
   pub picture : work ≡ pictureAfter q u row (t + 1) ++ rest
   pub vote-is : vote ≡ voteAfter q u row t
+
+-- these heights bound the upper parts after t steps on a row
+abbrev pub BelowAfter : ℕ → ℕ → List ℕ → ℕ → List ℕ → Type 0
+BelowAfter q u row t heights = Below q heights (cellsOf q (stateAfter q u row t .polys))

@@ -1,4 +1,5 @@
 // Rows of the work area by polynomial and row: the only functions that work out where a row stands.
+use crate::heights;
 use crate::rows;
 ghost use mathlib.Core.Path.{_≡_};
 ghost use Prim.Native.Nat.{_+_, _*_, _<_};
@@ -33,7 +34,8 @@ pub fn row_place(q: usize, p: usize, r: usize) -> usize
     (p * (2 * q) + r) * width_of(q)
 }
 
-// Adds to row r of polynomial p what `products` is the table row of, times x^shift, times row r2 of polynomial p2.
+// Adds to row r of polynomial p what `products` is the table row of, times x^shift, times the first `height` symbols of row r2 of
+// polynomial p2.
 pub fn add_row(
     work: &mut [u8],
     q: usize,
@@ -41,12 +43,13 @@ pub fn add_row(
     r: usize,
     p2: usize,
     r2: usize,
+    height: usize,
     shift: usize,
     products: [u8; 16],
 )
     requires { ⌜ Area q (length (now work)) ⌝ }
     requires { ⌜ (p < 2 * q) × (r < 2 * q) × (p2 < 2 * q) × (r2 < 2 * q) × (p ≡ p2 → r ≡ r2 → ⊥) ⌝ }
-    ensures { λ _. ⌜ ((ρ : Sym q) → Multiplies q products ρ → Turns q (now (work .entry)) (now (work .exit)) (rowAdded q p r p2 r2 shift ρ)) ⌝ }
+    ensures { λ _. ⌜ ((ρ : Sym q) → Multiplies q products ρ → Turns q (now (work .entry)) (now (work .exit)) (rowAdded q p r p2 r2 height shift ρ)) ⌝ }
 {
     let width = width_of(q);
     if width <= shift {
@@ -54,7 +57,8 @@ pub fn add_row(
     }
     let to = row_place(q, p, r);
     let from = row_place(q, p2, r2);
-    rows::add_bytes(work, to + shift, from, width - shift, products);
+    let count = heights::smaller(height, width - shift);
+    rows::add_bytes(work, to + shift, from, count, products);
 }
 
 // Row r of polynomial f becomes x^shift times itself plus the multiple of that of g, and row r of g becomes that of f.

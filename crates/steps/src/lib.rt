@@ -2,6 +2,7 @@
 use refusals::Refusal;
 
 mod area;
+mod heights;
 mod pairs;
 mod products;
 mod reading;
@@ -13,6 +14,7 @@ mod update;
 mod votes;
 
 pub use area::area_size;
+pub use heights::start_heights;
 pub use reading::Leading;
 pub use reading::leading_of;
 pub use service::advance;

@@ -7,6 +7,7 @@ ghost use Rattle.symbols.specs.Rule.{Known, symbols};
 ghost use Rattle.published.specs.Start.{Polynomials};
 ghost use Rattle.published.specs.Pairing.{kOf, isVoted, pairing};
 ghost use Rattle.steps.specs.Area.{Area, cellsOf, Starts, Narrow};
+ghost use Rattle.steps.specs.Heights.{Heights, Below};
 ghost use Rattle.steps.specs.Pairs.{Held, NumbersOf, pairAt};
 
 // The numbers of pair i: `partner` is i'.
@@ -29,13 +30,15 @@ fn quotient_of(q: usize, total: usize) -> i64
 }
 
 // The numbers of pair i at step s, for a step that votes or does not.
-fn pair_of(work: &[u8], q: usize, i: usize, s: usize, voted: bool) -> Pair
+fn pair_of(work: &[u8], q: usize, heights: &[usize], i: usize, s: usize, voted: bool) -> Pair
     requires { ⌜ Area q (length (now work)) ⌝ }
+    requires { ⌜ Heights q (now heights) ⌝ }
     requires { ⌜ (i < q) × (s ≤ 100) ⌝ }
     ensures { λ pair. ⌜ Held q pair ⌝ }
-    ensures { λ pair. ⌜ ((S : Polynomials (symbols q) q) (u : ℕ) → Narrow q (cellsOf q S) → Starts q (now (work .entry)) (cellsOf q S) → isVoted q u s ≡ voted → NumbersOf q pair (pairing (symbols q) q u s S i)) ⌝ }
+    ensures { λ pair. ⌜ ((S : Polynomials (symbols q) q) (u : ℕ) → Narrow q (cellsOf q S) → Below q (now (heights .entry)) (cellsOf q S) → Starts q (now (work .entry)) (cellsOf q S) → isVoted q u s ≡ voted → NumbersOf q pair (pairing (symbols q) q u s S i)) ⌝ }
 {
-    let f = reading::leading_of(work, q, q + i, i);
+    let height = heights[q + i];
+    let f = reading::leading_below(work, q, q + i, i, height);
     let a = f.degree;
     let mu = f.coefficient;
     let total = q * a + (q + 1) * i + s;
@@ -75,11 +78,12 @@ fn pair_of(work: &[u8], q: usize, i: usize, s: usize, voted: bool) -> Pair
 }
 
 // The numbers of all pairs.
-pub fn pairs_of(work: &[u8], q: usize, s: usize, voted: bool) -> [Pair; 4]
+pub fn pairs_of(work: &[u8], q: usize, heights: &[usize], s: usize, voted: bool) -> [Pair; 4]
     requires { ⌜ Area q (length (now work)) ⌝ }
+    requires { ⌜ Heights q (now heights) ⌝ }
     requires { ⌜ s ≤ 100 ⌝ }
     ensures { λ pairs. ⌜ ((i : ℕ) → i < q → Held q (pairAt pairs i)) ⌝ }
-    ensures { λ pairs. ⌜ ((S : Polynomials (symbols q) q) (u : ℕ) → Narrow q (cellsOf q S) → Starts q (now (work .entry)) (cellsOf q S) → isVoted q u s ≡ voted → (i : ℕ) → i < q → NumbersOf q (pairAt pairs i) (pairing (symbols q) q u s S i)) ⌝ }
+    ensures { λ pairs. ⌜ ((S : Polynomials (symbols q) q) (u : ℕ) → Narrow q (cellsOf q S) → Below q (now (heights .entry)) (cellsOf q S) → Starts q (now (work .entry)) (cellsOf q S) → isVoted q u s ≡ voted → (i : ℕ) → i < q → NumbersOf q (pairAt pairs i) (pairing (symbols q) q u s S i)) ⌝ }
 {
     let none = Pair {
         partner: 0,
@@ -90,7 +94,7 @@ pub fn pairs_of(work: &[u8], q: usize, s: usize, voted: bool) -> [Pair; 4]
     };
     let mut pairs = [none; 4];
     for i in 0..q {
-        let pair = pair_of(work, q, i, s, voted);
+        let pair = pair_of(work, q, heights, i, s, voted);
         pairs[i] = pair;
     }
     pairs

@@ -9,7 +9,8 @@ ghost use Rattle.algebra.specs.Weights.{gap};
 ghost use Rattle.symbols.specs.Rule.{symbols, Sym, number, symbol};
 ghost use Rattle.published.specs.Start.{Polynomials};
 ghost use Rattle.published.specs.Steps.{substituted};
-ghost use Rattle.steps.specs.Area.{Area, Apart, Turns, Becomes, Multiplies, sourceRow, sourceShift, productRowAdded, productAdded, replacedZ};
+ghost use Rattle.steps.specs.Area.{Area, Apart, cellsOf, Turns, Becomes, Multiplies, sourceRow, sourceShift, productRowAdded, productAdded, replacedZ};
+ghost use Rattle.steps.specs.Heights.{Below};
 
 // A part of a polynomial: its q rows from `row` on.
 pub struct Part {
@@ -40,13 +41,15 @@ fn source_of(q: usize, b: usize, j: usize) -> Source
     }
 }
 
-// Adds to row j of one part that of x^a·y^b times another part, times what `products` is the table row of.
+// Adds to row j of one part that of x^a·y^b times another part, of whose rows the first `height` symbols are taken, times what
+// `products` is the table row of.
 fn add_product_row(
     work: &mut [u8],
     q: usize,
     to: Part,
     from: Part,
     j: usize,
+    height: usize,
     a: usize,
     b: usize,
     products: [u8; 16],
@@ -54,7 +57,7 @@ fn add_product_row(
     requires { ⌜ Area q (length (now work)) ⌝ }
     requires { ⌜ Apart q to from ⌝ }
     requires { ⌜ (j < q) × (b < q) × (a ≤ 1000) ⌝ }
-    ensures { λ _. ⌜ ((ρ : Sym q) → Multiplies q products ρ → Turns q (now (work .entry)) (now (work .exit)) (productRowAdded q to from j a b ρ)) ⌝ }
+    ensures { λ _. ⌜ ((ρ : Sym q) → Multiplies q products ρ → Turns q (now (work .entry)) (now (work .exit)) (productRowAdded q to from j height a b ρ)) ⌝ }
 {
     let source = source_of(q, b, j);
     let row = source.row;
@@ -63,7 +66,7 @@ fn add_product_row(
     let at = to.row + j;
     let p2 = from.polynomial;
     let start = from.row;
-    area::add_row(work, q, p, at, p2, start + row, a + shift, products);
+    area::add_row(work, q, p, at, p2, start + row, height, a + shift, products);
     if j == 0 {
         return;
     }
@@ -71,7 +74,17 @@ fn add_product_row(
         return;
     }
     // the y of x^(q+1) + y comes round to this row too
-    area::add_row(work, q, p, at, p2, start + (j + q - b - 1), a, products);
+    area::add_row(
+        work,
+        q,
+        p,
+        at,
+        p2,
+        start + (j + q - b - 1),
+        height,
+        a,
+        products,
+    );
 }
 
 // The same in all rows of the part.
@@ -80,6 +93,7 @@ pub fn add_product(
     q: usize,
     to: Part,
     from: Part,
+    height: usize,
     a: usize,
     b: usize,
     products: [u8; 16],
@@ -87,18 +101,19 @@ pub fn add_product(
     requires { ⌜ Area q (length (now work)) ⌝ }
     requires { ⌜ Apart q to from ⌝ }
     requires { ⌜ (b < q) × (a ≤ 1000) ⌝ }
-    ensures { λ _. ⌜ ((ρ : Sym q) → Multiplies q products ρ → Turns q (now (work .entry)) (now (work .exit)) (productAdded q to from a b ρ q)) ⌝ }
+    ensures { λ _. ⌜ ((ρ : Sym q) → Multiplies q products ρ → Turns q (now (work .entry)) (now (work .exit)) (productAdded q to from height a b ρ q)) ⌝ }
 {
     for j in 0..q {
-        add_product_row(work, q, to, from, j, a, b, products);
+        add_product_row(work, q, to, from, j, height, a, b, products);
     }
 }
 
-// z becomes z + m·x^a·y^b in all 2q polynomials.
-pub fn replace_z(work: &mut [u8], q: usize, a: usize, b: usize, m: u8)
+// z becomes z + m·x^a·y^b in all 2q polynomials, whose upper rows have no more symbols than `heights` says.
+pub fn replace_z(work: &mut [u8], q: usize, heights: &[usize], a: usize, b: usize, m: u8)
     requires { ⌜ Area q (length (now work)) ⌝ }
+    requires { ⌜ 2 * q ≤ length (now heights) ⌝ }
     requires { ⌜ (b < q) × (a ≤ 1000) ⌝ }
-    ensures { λ _. ⌜ Turns q (now (work .entry)) (now (work .exit)) (replacedZ q a b (symbol q m) (2 * q)) ⌝ }
+    ensures { λ _. ⌜ Turns q (now (work .entry)) (now (work .exit)) (replacedZ q (now (heights .entry)) a b (symbol q m) (2 * q)) ⌝ }
 {
     let products = symbols::products_of(q, m);
     for p in 0..2 * q {
@@ -110,15 +125,16 @@ pub fn replace_z(work: &mut [u8], q: usize, a: usize, b: usize, m: u8)
             polynomial: p,
             row: q,
         };
-        add_product(work, q, lower, upper, a, b, products);
+        add_product(work, q, lower, upper, heights[p], a, b, products);
     }
 }
 
 // z becomes z + vote·(monomial of s) in all polynomials, and nothing changes for a vote of 0.
-pub fn substitute(work: &mut [u8], q: usize, s: usize, vote: u8)
+pub fn substitute(work: &mut [u8], q: usize, heights: &[usize], s: usize, vote: u8)
     requires { ⌜ Area q (length (now work)) ⌝ }
+    requires { ⌜ 2 * q ≤ length (now heights) ⌝ }
     requires { ⌜ (s ≤ 1000) × ((vote ≡ 0 → ⊥) → gap q s ≡ false) ⌝ }
-    ensures { λ _. ⌜ ((S : Polynomials (symbols q) q) (ω : Sym q) → vote ≡ number q ω → Becomes q (now (work .entry)) (now (work .exit)) S (substituted (symbols q) q s ω S)) ⌝ }
+    ensures { λ _. ⌜ ((S : Polynomials (symbols q) q) (ω : Sym q) → vote ≡ number q ω → Below q (now (heights .entry)) (cellsOf q S) → Becomes q (now (work .entry)) (now (work .exit)) S (substituted (symbols q) q s ω S)) ⌝ }
 {
     if vote == 0 {
         return;
@@ -127,5 +143,5 @@ pub fn substitute(work: &mut [u8], q: usize, s: usize, vote: u8)
     let Monomial::Powers { x, y } = monomial else {
         return;
     };
-    replace_z(work, q, x, y, vote);
+    replace_z(work, q, heights, x, y, vote);
 }

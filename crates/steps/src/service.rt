@@ -1,6 +1,7 @@
 // The stop service: any number of steps on a received row, with the picture and the votes that they leave.
 use crate::Stopped;
 use crate::area;
+use crate::heights;
 use crate::start;
 use crate::step;
 use crate::votes;
@@ -41,8 +42,9 @@ fn take_steps(q: usize, u: usize, steps: usize, work: &mut [u8], votes: &mut [u8
         → (now (work .exit) ≡ pictureAfter q u row steps ++ rest) × (now (votes .exit) ≡ votesAfter q u row steps ++ rest′)) ⌝ }
 {
     let mut left = curve::dimension(q, u);
+    let mut heights = heights::start_heights(q);
     for done in 0..steps {
-        let vote = step::take_step(q, u, done, work);
+        let vote = step::take_step(q, u, done, work, &mut heights);
         left = note_vote(q, u, done, left, vote, votes);
     }
 }

@@ -123,7 +123,8 @@ fn add_multiple(work: &mut [u8], q: usize, first: usize, row: usize, i: usize)
         polynomial: first,
         row,
     };
-    products::add_product(work, q, to, from, 0, i, symbols::products_of(q, 1));
+    let width = area::width_of(q);
+    products::add_product(work, q, to, from, width, 0, i, symbols::products_of(q, 1));
 }
 
 // Makes g_i and f_i of g_0 and f_0; g_i has no upper part.

@@ -5,13 +5,14 @@ use crate::update;
 use crate::votes;
 ghost use mathlib.Core.Path.{_≡_};
 ghost use mathlib.Core.List.{List, _++_};
-ghost use Prim.Native.Nat.{ℕ, _<_, _≤_};
+ghost use Prim.Native.Nat.{ℕ, _+_, _<_, _≤_};
 ghost use lib.ListN.{length};
 ghost use Rattle.symbols.specs.Rule.{Known};
 ghost use Rattle.published.specs.Start.{startWeight, stepCount};
 ghost use Rattle.published.specs.Picture.{areaSize};
 ghost use Rattle.steps.specs.Stop.{pictureAfter};
-ghost use Rattle.steps.specs.Step.{Stepped};
+ghost use Rattle.steps.specs.Heights.{Heights};
+ghost use Rattle.steps.specs.Step.{Stepped, BelowAfter};
 
 // The weight of the first step.
 pub fn start_weight(q: usize) -> usize
@@ -30,15 +31,18 @@ pub fn step_count(q: usize) -> usize
 }
 
 // Does the step after `done` steps and gives its vote, 0 where there is none.
-pub fn take_step(q: usize, u: usize, done: usize, work: &mut [u8]) -> u8
+pub fn take_step(q: usize, u: usize, done: usize, work: &mut [u8], heights: &mut [usize]) -> u8
     requires { ⌜ Known q × (areaSize q ≤ length (now work)) × (done < stepCount q) ⌝ }
-    ensures { λ vote. ⌜ ((row : List ℕ) (rest : List ℕ) → now (work .entry) ≡ pictureAfter q u row done ++ rest → Stepped q u row done rest vote (now (work .exit))) ⌝ }
+    requires { ⌜ Heights q (now heights) ⌝ }
+    ensures { λ _. ⌜ Heights q (now (heights .exit)) ⌝ }
+    ensures { λ vote. ⌜ ((row : List ℕ) (rest : List ℕ) → now (work .entry) ≡ pictureAfter q u row done ++ rest → BelowAfter q u row done (now (heights .entry))
+        → Stepped q u row done rest vote (now (work .exit)) × BelowAfter q u row (done + 1) (now (heights .exit))) ⌝ }
 {
     let s = start_weight(q) - done;
     let voted = votes::is_voted(q, u, s);
-    let pairs = pairs::pairs_of(&work[..], q, s, voted);
+    let pairs = pairs::pairs_of(&work[..], q, &heights[..], s, voted);
     let vote = votes::vote_of(pairs, q, voted);
-    products::substitute(work, q, s, vote);
-    update::change_all(work, q, pairs, vote);
+    products::substitute(work, q, &heights[..], s, vote);
+    update::change_all(work, q, heights, pairs, vote);
     vote
 }

@@ -1,5 +1,6 @@
 // The update of a pair: one polynomial reduced by another, or both exchanged.
 use crate::area;
+use crate::heights;
 use crate::pairs::Pair;
 ghost use mathlib.Core.Path.{_≡_};
 ghost use Prim.Native.Nat.{ℕ, _*_, _<_};
@@ -9,18 +10,28 @@ ghost use Rattle.symbols.specs.Rule.{Known, symbols, Sym, number, symbol};
 ghost use Rattle.published.specs.Start.{Polynomials};
 ghost use Rattle.published.specs.Pairing.{Pairing};
 ghost use Rattle.published.specs.Steps.{ratio, changed, updated};
-ghost use Rattle.steps.specs.Area.{Area, Turns, Becomes, polynomialAdded, polynomialsExchanged};
+ghost use Rattle.steps.specs.Area.{Area, cellsOf, Turns, rowHeight, polynomialAdded, polynomialsExchanged};
+ghost use Rattle.steps.specs.Heights.{Heights, Below, BecomesBelow};
 ghost use Rattle.steps.specs.Pairs.{Held, NumbersOf, pairAt};
 
-// Polynomial f becomes f + m·x^shift·g.
-fn add_polynomial(work: &mut [u8], q: usize, f: usize, g: usize, shift: usize, m: u8)
+// How many symbols of row r are added: of an upper row no more than there are.
+fn row_height(q: usize, r: usize, height: usize) -> usize
+    requires { ⌜ Known q ⌝ }
+    ensures { λ n. ⌜ n ≡ rowHeight q height r ⌝ }
+{
+    if r < q { height } else { area::width_of(q) }
+}
+
+// Polynomial f becomes f + m·x^shift·g, where g's upper rows have no more than `height` symbols.
+fn add_polynomial(work: &mut [u8], q: usize, f: usize, g: usize, height: usize, shift: usize, m: u8)
     requires { ⌜ Area q (length (now work)) ⌝ }
     requires { ⌜ (f < 2 * q) × (g < 2 * q) × (f ≡ g → ⊥) ⌝ }
-    ensures { λ _. ⌜ Turns q (now (work .entry)) (now (work .exit)) (polynomialAdded q f g shift (symbol q m) (2 * q)) ⌝ }
+    ensures { λ _. ⌜ Turns q (now (work .entry)) (now (work .exit)) (polynomialAdded q f g height shift (symbol q m) (2 * q)) ⌝ }
 {
     let products = symbols::products_of(q, m);
     for r in 0..2 * q {
-        area::add_row(work, q, f, r, g, r, shift, products);
+        let count = row_height(q, r, height);
+        area::add_row(work, q, f, r, g, r, count, shift, products);
     }
 }
 
@@ -47,33 +58,44 @@ fn ratio_of(q: usize, vote: u8, w: u8, mu: u8, nu: u8) -> u8
 }
 
 // What pair i does after the substitution: c's sign picks the update, and -c is the shift where c is not positive.
-fn change(work: &mut [u8], q: usize, i: usize, pair: Pair, vote: u8)
+fn change(work: &mut [u8], q: usize, heights: &mut [usize], i: usize, pair: Pair, vote: u8)
     requires { ⌜ Area q (length (now work)) ⌝ }
+    requires { ⌜ Heights q (now heights) ⌝ }
     requires { ⌜ (i < q) × Held q pair ⌝ }
-    ensures { λ _. ⌜ ((S : Polynomials (symbols q) q) (ω : Sym q) (P : Pairing (symbols q) q) → vote ≡ number q ω → NumbersOf q pair P → Becomes q (now (work .entry)) (now (work .exit)) S (changed (symbols q) q ω i P S)) ⌝ }
+    ensures { λ _. ⌜ Heights q (now (heights .exit)) ⌝ }
+    ensures { λ _. ⌜ ((S : Polynomials (symbols q) q) (ω : Sym q) (P : Pairing (symbols q) q) → vote ≡ number q ω → NumbersOf q pair P → Below q (now (heights .entry)) (cellsOf q S)
+        → BecomesBelow q (now (work .entry)) (now (work .exit)) S (changed (symbols q) q ω i P S) (now (heights .exit))) ⌝ }
 {
     let w = pair.w;
     if w == vote {
         return;
     }
     let ratio = ratio_of(q, vote, w, pair.mu, pair.nu);
-    let partner = pair.partner;
+    let f = q + i;
+    let g = pair.partner;
     let c = pair.c;
     if 0 < c {
-        exchange_polynomials(work, q, q + i, partner, c as usize, ratio);
+        let shift = c as usize;
+        exchange_polynomials(work, q, f, g, shift, ratio);
+        heights::exchange_heights(heights, q, f, g, shift);
         return;
     }
-    add_polynomial(work, q, q + i, partner, -c as usize, ratio);
+    let shift = -c as usize;
+    add_polynomial(work, q, f, g, heights[g], shift, ratio);
+    heights::add_heights(heights, q, f, g, shift);
 }
 
 // The update of all pairs.
-pub fn change_all(work: &mut [u8], q: usize, pairs: [Pair; 4], vote: u8)
+pub fn change_all(work: &mut [u8], q: usize, heights: &mut [usize], pairs: [Pair; 4], vote: u8)
     requires { ⌜ Area q (length (now work)) ⌝ }
+    requires { ⌜ Heights q (now heights) ⌝ }
     requires { ⌜ ((i : ℕ) → i < q → Held q (pairAt pairs i)) ⌝ }
-    ensures { λ _. ⌜ ((S : Polynomials (symbols q) q) (ω : Sym q) (P : ℕ → Pairing (symbols q) q) → vote ≡ number q ω → ((i : ℕ) → i < q → NumbersOf q (pairAt pairs i) (P i)) → Becomes q (now (work .entry)) (now (work .exit)) S (updated (symbols q) q ω (tab q P) S q)) ⌝ }
+    ensures { λ _. ⌜ Heights q (now (heights .exit)) ⌝ }
+    ensures { λ _. ⌜ ((S : Polynomials (symbols q) q) (ω : Sym q) (P : ℕ → Pairing (symbols q) q) → vote ≡ number q ω → ((i : ℕ) → i < q → NumbersOf q (pairAt pairs i) (P i)) → Below q (now (heights .entry)) (cellsOf q S)
+        → BecomesBelow q (now (work .entry)) (now (work .exit)) S (updated (symbols q) q ω (tab q P) S q) (now (heights .exit))) ⌝ }
 {
     for i in 0..q {
         let pair = pairs[i];
-        change(work, q, i, pair, vote);
+        change(work, q, heights, i, pair, vote);
     }
 }

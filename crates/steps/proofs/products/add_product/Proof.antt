@@ -13,16 +13,16 @@ use Rattle.steps.proofs.products.add_product.Statement.{statement}
 use Rattle.steps.proofs.products.add_product.Tie as tie
 
 abbrev Inv-loop : tie.InvT-loop
-Inv-loop work₀ q to from a b products j₀ work j =
+Inv-loop work₀ q to from height a b products j₀ work j =
     (j ≤ q) × (length work ≡ length work₀)
-    × ((ρ : Sym q) → Multiplies q products ρ → Turns q work₀ work (productAdded q to from a b ρ j))
+    × ((ρ : Sym q) → Multiplies q products ρ → Turns q work₀ work (productAdded q to from height a b ρ j))
 
 abbrev μ-loop : tie.MeasureT-loop
-μ-loop work₀ q to from a b products j₀ work j = q - j
+μ-loop work₀ q to from height a b products j₀ work j = q - j
 
 loop-holds : tie.Need-loop-holds Inv-loop μ-loop
 loop-holds c =
-    (search needs, search needs, λ ρ m. turns-same _ (λ S p r i hp hr hi. product-none _ (c .before .pre .0 .known) (c .before .args .to) (c .before .args .from) _ _ ρ S p r i) (turns-none _))
+    (search needs, search needs, λ ρ m. turns-same _ (λ S p r i hp hr hi. product-none _ (c .before .pre .0 .known) (c .before .args .to) (c .before .args .from) _ _ _ ρ S p r i) (turns-none _))
 
 add-product-row-requires : tie.Need-add-product-row-requires Inv-loop μ-loop
 add-product-row-requires c κs =
@@ -40,7 +40,7 @@ loop-again c =
     let s = c .before .before .before .before .before .before .before in (
       search needs,
       search needs,
-      λ ρ m. turns-same _ (λ S p r i hp hr hi. product-more _ (s .pre .0 .known) (s .args .to) (s .args .from) _ _ ρ (s .pre .1 .0) S _ (c .before .before .before .before .loop-test .taken) p r i)
+      λ ρ m. turns-same _ (λ S p r i hp hr hi. product-more _ (s .pre .0 .known) (s .args .to) (s .args .from) _ _ _ ρ (s .pre .1 .0) S _ (c .before .before .before .before .loop-test .taken) p r i)
           (turns-both _ (c .before .before .before .before .before .loop .inv .2 ρ m) (c .before .before .add-product-row .ensures ρ m)),
     )
 

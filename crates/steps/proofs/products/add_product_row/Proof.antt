@@ -35,7 +35,7 @@ returns c =
     λ ρ m.
     let s = c .before .before .before .before .before .before .before .before in
     let w = c .before .before .before .before .before .before .source-of .ensures in
-    turns-same _ (λ S p r i hp hr hi. once _ (s .pre .0 .known) (s .args .to) (s .args .from) _ _ ρ S _ (s .pre .1 .1 .1) (s .pre .1 .1 .0) (inl (c .if1 .taken)) p r i)
+    turns-same _ (λ S p r i hp hr hi. once _ (s .pre .0 .known) (s .args .to) (s .args .from) _ _ _ ρ S _ (s .pre .1 .1 .1) (s .pre .1 .1 .0) (inl (c .if1 .taken)) p r i)
     (rw (w .0, w .1) at (c .before .before .before .add-row .ensures ρ m))
 
 same-length-2 : tie.Need-same-length-2
@@ -46,7 +46,7 @@ returns-2 c =
     λ ρ m.
     let s = c .before .before .before .before .before .before .before .before .before in
     let w = c .before .before .before .before .before .before .before .source-of .ensures in
-    turns-same _ (λ S p r i hp hr hi. once _ (s .pre .0 .known) (s .args .to) (s .args .from) _ _ ρ S _ (s .pre .1 .1 .1) (s .pre .1 .1 .0) (inr (c .if2 .taken)) p r i)
+    turns-same _ (λ S p r i hp hr hi. once _ (s .pre .0 .known) (s .args .to) (s .args .from) _ _ _ ρ S _ (s .pre .1 .1 .1) (s .pre .1 .1 .0) (inr (c .if2 .taken)) p r i)
     (rw (w .0, w .1) at (c .before .before .before .before .add-row .ensures ρ m))
 
 add-add-row-3 : tie.Need-add-add-row-3
@@ -77,7 +77,7 @@ returns-3 c =
     let s = c .before .before .before .before .before .before .before .before .before .before .before .before .before in
     let w = c .before .before .before .before .before .before .before .before .before .before .before .source-of .ensures in
     let some = c .before .before .before .before .before .if1 .left in
-    turns-same _ (λ S p r i hp hr hi. twice _ (s .pre .0 .known) (s .args .to) (s .args .from) _ _ ρ S _ (s .pre .1 .1 .1) (s .pre .1 .1 .0) (s .pre .1 .0) (omega arith) (c .before .before .before .before .if2 .left) p r i)
+    turns-same _ (λ S p r i hp hr hi. twice _ (s .pre .0 .known) (s .args .to) (s .args .from) _ _ _ ρ S _ (s .pre .1 .1 .1) (s .pre .1 .1 .0) (s .pre .1 .0) (omega arith) (c .before .before .before .before .if2 .left) p r i)
     (turns-both _ (rw (w .0, w .1) at (c .before .before .before .before .before .before .before .before .add-row .ensures ρ m)) (c .before .before .add-row2 .ensures ρ m))
 
 pub add-product-row-spec : {M : Type 1} → statement M

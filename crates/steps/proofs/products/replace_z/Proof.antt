@@ -14,10 +14,10 @@ use Rattle.steps.proofs.products.replace_z.Statement.{statement}
 use Rattle.steps.proofs.products.replace_z.Tie as tie
 
 abbrev Inv-loop : tie.InvT-loop
-Inv-loop work₀ q a b m products p₀ p-end work p = (p ≤ 2 * q) × (length work ≡ length work₀) × Turns q work₀ work (replacedZ q a b (symbol q m) p)
+Inv-loop work₀ q heights a b m products p₀ p-end work p = (p ≤ 2 * q) × (length work ≡ length work₀) × Turns q work₀ work (replacedZ q heights a b (symbol q m) p)
 
 abbrev μ-loop : tie.MeasureT-loop
-μ-loop work₀ q a b m products p₀ p-end work p = 2 * q - p
+μ-loop work₀ q heights a b m products p₀ p-end work p = 2 * q - p
 
 products-of-requires : tie.Need-products-of-requires Inv-loop μ-loop
 products-of-requires c κs = search needs
@@ -27,12 +27,18 @@ mul-p-end c = search needs
 
 loop-holds : tie.Need-loop-holds Inv-loop μ-loop
 loop-holds c =
-    (search needs, search needs, turns-same _ (λ S p r i hp hr hi. replaced-none _ (c .before .before .pre .0 .known) _ _ _ S p r i) (turns-none _))
+    (search needs, search needs, turns-same _ (λ S p r i hp hr hi. replaced-none _ (c .before .before .before .pre .0 .known) _ _ _ _ S p r i) (turns-none _))
+
+mul-add-product : tie.Need-mul-add-product Inv-loop μ-loop
+mul-add-product c = search needs
+
+shared-slice-read-add-product : tie.Need-shared-slice-read-add-product Inv-loop μ-loop
+shared-slice-read-add-product c = search needs
 
 add-product-requires : tie.Need-add-product-requires Inv-loop μ-loop
 add-product-requires c κs =
-    let s = c .before .before .before .before .before in
-    (still (s .pre .0) (c .before .before .loop .inv .1), (parts-apart _ (s .pre .0 .known) _ (c .before .loop-test .taken), s .pre .1))
+    let s = c .before .before .before .before .before .before .before in
+    (still (s .pre .0) (c .before .before .before .loop .inv .1), (parts-apart _ (s .pre .0 .known) _ (c .before .before .loop-test .taken), s .pre .1 .1))
 
 add-p : tie.Need-add-p Inv-loop μ-loop
 add-p c = search needs
@@ -42,11 +48,11 @@ loop-less c = search needs
 
 loop-again : tie.Need-loop-again Inv-loop μ-loop
 loop-again c =
-    let s = c .before .before .before .before .before .before .before .before in (
+    let s = c .before .before .before .before .before .before .before .before .before .before in (
       search needs,
       search needs,
-      turns-same _ (λ S p r i hp hr hi. replaced-more _ (s .pre .0 .known) _ _ _ _ S p r i)
-          (turns-both _ (c .before .before .before .before .before .loop .inv .2) (c .before .before .add-product .ensures (symbol _ (s .args .m)) (rw (c .before .before .before .before .before .before .products-of .ensures) (multiplies _ _ (s .pre .0 .known))))),
+      turns-same _ (λ S p r i hp hr hi. replaced-more _ (s .pre .0 .known) _ _ _ _ _ S p r i)
+          (turns-both _ (c .before .before .before .before .before .before .loop .inv .2) (c .before .before .add-product .ensures (symbol _ (s .args .m)) (rw (c .before .before .before .before .before .before .before .products-of .ensures) (multiplies _ _ (s .pre .0 .known))))),
     )
 
 same-length : tie.Need-same-length Inv-loop μ-loop
@@ -54,7 +60,7 @@ same-length c = search needs
 
 returns : tie.Need-returns Inv-loop μ-loop
 returns c =
-    let p : c .before .loop .p ≡ 2 * c .before .before .before .before .args .q = omega arith in
+    let p : c .before .loop .p ≡ 2 * c .before .before .before .before .before .args .q = omega arith in
     rw p at (c .before .loop .inv .2)
 
 pub replace-z-spec : {M : Type 1} → statement M
@@ -66,6 +72,8 @@ replace-z-spec =
     products-of-requires
     mul-p-end
     loop-holds
+    mul-add-product
+    shared-slice-read-add-product
     add-product-requires
     add-p
     loop-less

@@ -1,122 +1,22 @@
--- From above, the first symbol that is not zero.
+-- No symbol is held past the width.
 -- Assumes nothing.
-use mathlib.Core.Path.{_≡_, sym, _∙_}
-use Prim.Native.Nat.{_-_, _≤_}
-use native.Mathlib.Nat.{add-zero}
 use native.Mathlib.Omega.{arith}
-use Rattle.symbols.specs.Rule.{number}
-use Rattle.published.specs.Start.{width}
-use Rattle.published.specs.Pairing.{degree}
-use Rattle.steps.specs.Area.{Cells, Starts}
-use Rattle.steps.proofs.Cells.{row-fits, shown-read}
-use Rattle.steps.proofs.Sizes.{row-small}
-use Rattle.steps.proofs.Degrees.{degree-skip, degree-found, degree-one}
 use borrow.Author.Needs.{needs}
 use Rattle.steps.proofs.reading.leading_of.Statement.{statement}
 use Rattle.steps.proofs.reading.leading_of.Tie as tie
 
-abbrev Inv-loop : tie.InvT-loop
-Inv-loop work q p r at i₀ i =
-    (1 ≤ i) × (i ≤ width q)
-    × ((S : Cells q) → Starts q work S → degree (λ k. number q (S p r k)) (width q) ≡ degree (λ k. number q (S p r k)) i)
-
-abbrev μ-loop : tie.MeasureT-loop
-μ-loop work q p r at i₀ i = i
-
-row-place-requires : tie.Need-row-place-requires Inv-loop μ-loop
-row-place-requires c κs = search needs
-
-width-of-requires : tie.Need-width-of-requires Inv-loop μ-loop
+width-of-requires : tie.Need-width-of-requires
 width-of-requires c κs = search needs
 
-loop-holds : tie.Need-loop-holds Inv-loop μ-loop
-loop-holds c =
-    let n = c .width-of .ensures in
-    (omega (arith, n, c .before .before .before .pre .0 .square), omega (arith, n), λ S z. rw n)
+leading-below-requires : tie.Need-leading-below-requires
+leading-below-requires c κs =
+    let s = c .before .before in
+    (s .pre .0, (s .pre .1 .0, s .pre .1 .1, omega (arith, c .width-of .ensures)))
 
-sub-i : tie.Need-sub-i Inv-loop μ-loop
-sub-i c = search needs
-
-add-if1 : tie.Need-add-if1 Inv-loop μ-loop
-add-if1 c =
-    let s = c .before .before .before .before .before in
-    rw (c .before .before .before .row-place .ensures) (omega (arith, row-small _ _ _ (s .pre .0 .known) (s .pre .1 .0) (s .pre .1 .1)))
-
-shared-slice-read-if1 : tie.Need-shared-slice-read-if1 Inv-loop μ-loop
-shared-slice-read-if1 c =
-    let s = c .before .before .before .before .before .before in
-    rw (c .before .before .before .before .row-place .ensures) (omega (arith, row-fits _ _ (s .pre .0) (s .pre .1 .0) (s .pre .1 .1)))
-
-add-t11 : tie.Need-add-t11 Inv-loop μ-loop
-add-t11 c =
-    let s = c .before .before .before .before .before .before .before in
-    rw (c .before .before .before .before .before .row-place .ensures) (omega (arith, row-small _ _ _ (s .pre .0 .known) (s .pre .1 .0) (s .pre .1 .1)))
-
-shared-slice-read-t13 : tie.Need-shared-slice-read-t13 Inv-loop μ-loop
-shared-slice-read-t13 c =
-    let s = c .before .before .before .before .before .before .before .before in
-    rw (c .before .before .before .before .before .before .row-place .ensures) (omega (arith, row-fits _ _ (s .pre .0) (s .pre .1 .0) (s .pre .1 .1)))
-
-returns : tie.Need-returns Inv-loop μ-loop
+returns : tie.Need-returns
 returns c =
-    let s = c .before .before .before .before .before .before .before .before in (
-      omega arith,
-      λ S z.
-          let read = shown-read _ S _ (z .rest) (z .is) _ _ (c .before .before .before .before .loop .i - 1) (s .pre .1 .0) (s .pre .1 .1) (omega arith) in
-          record {
-            degree-is = sym (c .before .before .before .before .loop .inv .2 S z ∙ degree-found _ _ (omega arith) (λ e. c .before .if1 .taken ((rw (c .before .before .before .before .before .before .row-place .ensures) read) ∙ e)));
-            coefficient-is = rw (c .before .before .before .before .before .before .row-place .ensures) read;
-          },
-    )
-
-loop-less : tie.Need-loop-less Inv-loop μ-loop
-loop-less c = search needs
-
-loop-again : tie.Need-loop-again Inv-loop μ-loop
-loop-again c =
-    let s = c .before .before .before .before .before .before .before in (
-      omega arith,
-      omega arith,
-      λ S z.
-          c .before .before .before .loop .inv .2 S z
-          ∙ degree-skip _ _ (omega arith)
-          (sym (shown-read _ S _ (z .rest) (z .is) _ _ (c .before .before .before .loop .i - 1) (s .pre .1 .0) (s .pre .1 .1) (omega arith)) ∙ (rw (← c .before .before .before .before .before .row-place .ensures) (c .if1 .left))),
-    )
-
-shared-slice-read-t15 : tie.Need-shared-slice-read-t15 Inv-loop μ-loop
-shared-slice-read-t15 c =
-    let s = c .before .before .before .before .before .before in
-    rw (c .before .before .before .before .row-place .ensures) (omega (arith, row-fits _ _ (s .pre .0) (s .pre .1 .0) (s .pre .1 .1), s .pre .0 .square))
-
-returns-2 : tie.Need-returns-2 Inv-loop μ-loop
-returns-2 c =
-    let s = c .before .before .before .before .before .before in
-    let i : c .before .before .loop .i ≡ 1 = omega arith in (
-      omega (arith, s .pre .0 .square),
-      λ S z.
-          let read = shown-read _ S _ (z .rest) (z .is) _ _ 0 (s .pre .1 .0) (s .pre .1 .1) (omega (arith, s .pre .0 .square)) in
-          record {
-            degree-is = sym (rw i at (c .before .before .loop .inv .2 S z) ∙ degree-one _);
-            coefficient-is = rw (c .before .before .before .before .row-place .ensures) (rw add-zero at read);
-          },
-    )
+    let width = c .before .width-of .ensures in
+    (c .leading-below .ensures .0, λ S z. c .leading-below .ensures .1 S z (record { zeros = λ i h l. absurd (omega (arith, width)) }))
 
 pub leading-of-spec : {M : Type 1} → statement M
-leading-of-spec =
-    tie.close
-    (tie.spec
-    Inv-loop
-    μ-loop
-    row-place-requires
-    width-of-requires
-    loop-holds
-    sub-i
-    add-if1
-    shared-slice-read-if1
-    add-t11
-    shared-slice-read-t13
-    returns
-    loop-less
-    loop-again
-    shared-slice-read-t15
-    returns-2)
+leading-of-spec = tie.close (tie.spec width-of-requires leading-below-requires returns)

@@ -33,7 +33,7 @@ returns c =
     c .before .before .add-multiple3 .ensures .shows _ rest
     (c .before .before .before .before .before .before .add-multiple2 .ensures .shows _ rest
     (c .before .before .before .before .before .before .before .before .before .before .add-multiple .ensures .shows _ rest e))
-    ∙ ap (λ (l : List ℕ). l ++ rest) (shown-same _ _ _ (λ p r k hp hr hk. begun-more _ (s .pre .0 .known) H _ (s .pre .1 .0) (s .pre .1 .1) p r k hp hr))
+    ∙ ap (λ (l : List ℕ). l ++ rest) (shown-same _ _ _ (λ p r k hp hr hk. begun-more _ (s .pre .0 .known) H _ (s .pre .1 .0) (s .pre .1 .1) p r k hp hr hk))
 
 pub add-multiples-spec : {M : Type 1} → statement M
 add-multiples-spec =

@@ -14,10 +14,10 @@ use Rattle.steps.proofs.update.add_polynomial.Statement.{statement}
 use Rattle.steps.proofs.update.add_polynomial.Tie as tie
 
 abbrev Inv-loop : tie.InvT-loop
-Inv-loop work₀ q f g shift m products r₀ r-end work r = (r ≤ 2 * q) × (length work ≡ length work₀) × Turns q work₀ work (polynomialAdded q f g shift (symbol q m) r)
+Inv-loop work₀ q f g height shift m products r₀ r-end work r = (r ≤ 2 * q) × (length work ≡ length work₀) × Turns q work₀ work (polynomialAdded q f g height shift (symbol q m) r)
 
 abbrev μ-loop : tie.MeasureT-loop
-μ-loop work₀ q f g shift m products r₀ r-end work r = 2 * q - r
+μ-loop work₀ q f g height shift m products r₀ r-end work r = 2 * q - r
 
 products-of-requires : tie.Need-products-of-requires Inv-loop μ-loop
 products-of-requires c κs = search needs
@@ -27,12 +27,15 @@ mul-r-end c = search needs
 
 loop-holds : tie.Need-loop-holds Inv-loop μ-loop
 loop-holds c =
-    (search needs, search needs, turns-same _ (λ S p r i hp hr hi. added-none _ (c .before .before .pre .0 .known) _ _ _ (c .before .before .pre .1 .2) _ S p r i) (turns-none _))
+    (search needs, search needs, turns-same _ (λ S p r i hp hr hi. added-none _ (c .before .before .pre .0 .known) _ _ _ (c .before .before .pre .1 .2) _ S _ p r i) (turns-none _))
+
+row-height-requires : tie.Need-row-height-requires Inv-loop μ-loop
+row-height-requires c κs = search needs
 
 add-row-requires : tie.Need-add-row-requires Inv-loop μ-loop
 add-row-requires c κs =
-    let s = c .before .before .before .before .before in
-    (still (s .pre .0) (c .before .before .loop .inv .1), (search needs, search needs, search needs, search needs, λ e d. s .pre .1 .2 e))
+    let s = c .before .before .before .before .before .before in
+    (still (s .pre .0) (c .before .before .before .loop .inv .1), (search needs, search needs, search needs, search needs, λ e d. s .pre .1 .2 e))
 
 add-r : tie.Need-add-r Inv-loop μ-loop
 add-r c = search needs
@@ -42,11 +45,11 @@ loop-less c = search needs
 
 loop-again : tie.Need-loop-again Inv-loop μ-loop
 loop-again c =
-    let s = c .before .before .before .before .before .before .before .before in (
+    let s = c .before .before .before .before .before .before .before .before .before in (
       search needs,
       search needs,
-      turns-same _ (λ S p r i hp hr hi. added-more _ (s .pre .0 .known) _ _ _ (s .pre .1 .2) _ S _ p r i)
-          (turns-both _ (c .before .before .before .before .before .loop .inv .2) (c .before .before .add-row .ensures (symbol _ (s .args .m)) (rw (c .before .before .before .before .before .before .products-of .ensures) (multiplies _ _ (s .pre .0 .known))))),
+      turns-same _ (λ S p r i hp hr hi. added-more _ (s .pre .0 .known) _ _ _ (s .pre .1 .2) _ S _ _ p r i)
+          (turns-both _ (c .before .before .before .before .before .before .loop .inv .2) (rw (c .before .before .before .before .row-height .ensures) at (c .before .before .add-row .ensures (symbol _ (s .args .m)) (rw (c .before .before .before .before .before .before .before .products-of .ensures) (multiplies _ _ (s .pre .0 .known)))))),
     )
 
 same-length : tie.Need-same-length Inv-loop μ-loop
@@ -66,6 +69,7 @@ add-polynomial-spec =
     products-of-requires
     mul-r-end
     loop-holds
+    row-height-requires
     add-row-requires
     add-r
     loop-less
