@@ -2,7 +2,7 @@ mod Bytes
 pub mod Cells
 pub mod Sizes
 mod FirstSymbols
-mod HeightLaws
+pub mod HeightLaws
 mod RowLaws
 mod Turned
 mod ProductCells
@@ -14,7 +14,7 @@ mod PairNumbers
 mod VoteLaws
 mod ChangeLaws
 mod ReplaceLaws
-mod BelowLaws
+pub mod BelowLaws
 pub mod NarrowLaws
 mod StepLaws
 mod VotePlaces

@@ -7,6 +7,7 @@ use curve::dimension;
 use decoder::Decoded;
 use decoder::decode;
 use steps::Stopped;
+use steps::start_heights;
 use steps::step_count;
 use steps::stop;
 use steps::take_step;
@@ -46,8 +47,9 @@ fn put_lines(out: &mut [u8], q: usize, u: usize, row: &[u8], work: &mut [u8]) ->
 {
     let count = step_count(q);
     let mut next = put_code(out, 0, q, u);
+    let mut heights = start_heights(q);
     for t in 0..count {
-        let vote = take_step(q, u, t, work);
+        let vote = take_step(q, u, t, work, &mut heights);
         next = put_step_line(out, next, q, u, count - 1 - t, vote, work);
     }
     put_last(out, next, q, u, row, work)

@@ -1,7 +1,7 @@
 -- `trace::rows::put_lines` meets its contract. The loop's invariant: the area shows the state after t steps, and their lines
 -- are written.
 -- Assumes nothing.
-use mathlib.Core.Path.{_≡_, refl, _∙_}
+use mathlib.Core.Path.{_≡_, refl, sym, _∙_}
 use mathlib.Core.List.{[], _∷_}
 use Prim.Native.Nat.{suc, _+_, _-_, _*_, _≤_}
 use native.Mathlib.Numerals.{add-one}
@@ -12,8 +12,12 @@ use Rattle.lines.specs.Text.{Wrote}
 use Rattle.lines.proofs.Writing.{wrote-nothing}
 use Rattle.published.specs.Start.{stepCount}
 use Rattle.steps.specs.Area.{Starts, cellsOf}
+use Rattle.steps.specs.Heights.{Heights}
+use Rattle.steps.specs.Step.{BelowAfter}
 use Rattle.steps.specs.Stop.{stateAfter}
 use Rattle.steps.proofs.Sizes.{sizes, area-of}
+use Rattle.steps.proofs.HeightLaws.{start-many}
+use Rattle.steps.proofs.BelowLaws.{below-start}
 use Rattle.trace.specs.Request.{line}
 use Rattle.trace.specs.Trace.{voteAt, stepLines}
 use Rattle.trace.proofs.Lengths.{length-code-line, length-steps}
@@ -22,16 +26,17 @@ use Rattle.trace.proofs.rows.put_lines.Statement.{statement}
 use Rattle.trace.proofs.rows.put_lines.Tie as tie
 
 abbrev Inv-loop : tie.InvT-loop
-Inv-loop out₀ q u row work₀ count next₀ t₀ out work next t =
+Inv-loop out₀ q u row work₀ count next₀ heights₀ t₀ out work next heights t =
     (t ≤ count) × (length out ≡ length out₀) × (length work ≡ length work₀)
     × Starts q work (cellsOf q (stateAfter q u row t .polys)) × Wrote out₀ next₀ (stepLines q u row t) out next
+    × Heights q heights × (length heights ≡ 8) × BelowAfter q u row t heights
 
 abbrev μ-loop : tie.MeasureT-loop
-μ-loop out₀ q u row work₀ count next₀ t₀ out work next t = count - t
+μ-loop out₀ q u row work₀ count next₀ heights₀ t₀ out work next heights t = count - t
 
--- the function's start and the two calls before the loop, from the loop's head
+-- the function's start and calls before the loop, from the loop's head
 abbrev coded : tie.At-loop Inv-loop μ-loop → tie.After-put-code Inv-loop μ-loop
-coded c = c .before .before .before
+coded c = c .before .before .before .before
 
 abbrev counted : tie.At-loop Inv-loop μ-loop → tie.After-step-count Inv-loop μ-loop
 counted c = coded c .before .before
@@ -72,23 +77,24 @@ steps-fit : (c : tie.At-loop Inv-loop μ-loop)
     → coded c .put-code .result + length (stepLines (start c .args .q) (start c .args .u) (start c .args .row .now) (c .loop .t)) ≤ length (coded c .put-code .last .0)
 steps-fit c = omega (arith, reached c, few-steps c, c .loop .inv .0, coded c .put-code .kept .0, start c .pre .1 .0 .1, c .loop .inv .4 .place)
 
--- after a step: the area shows the next state, and the vote is the one of that state
+-- after a step: the area shows the next state, the vote is the one of that state, and the heights bound its upper parts
 next-state : (c : tie.After-take-step Inv-loop μ-loop)
-    → let head = c .before .before .before in
+    → let head = c .before .before .before .before in
     let a = start head .args in
     let next = stateAfter (a .q) (a .u) (a .row .now) (suc (head .loop .t)) in
     Starts (a .q) (c .take-step .last .1 .1 .1 .0) (cellsOf (a .q) (next .polys))
     × (c .take-step .result ≡ voteAt (a .q) (counted head .step-count .result - 1 - head .loop .t) next)
+    × BelowAfter (a .q) (a .u) (a .row .now) (head .loop .t + 1) (c .take-step .last .1 .1 .1 .1 .0)
 next-state c =
-    let head = c .before .before .before in
+    let head = c .before .before .before .before in
     let a = start head .args in
     let t = head .loop .t in
     let shows = head .loop .inv .3 in
     let picture = picture-of (a .q) (a .u) (a .row .now) t shows in
+    let taken = c .take-step .ensures .1 (a .row .now) (shows .rest) picture (head .loop .inv .7) in
     let after = stepped (a .q) (a .u) (a .row .now) t (shows .rest)
-    (omega (arith, c .before .before .loop-test .taken, counted head .step-count .ensures))
-    (c .take-step .ensures (a .row .now) (shows .rest) picture) in
-    (after .0, rw (weight-is (a .q) t (counted head .step-count .ensures)) (after .1))
+    (omega (arith, c .before .before .before .loop-test .taken, counted head .step-count .ensures)) (taken .0) in
+    (after .0, rw (weight-is (a .q) t (counted head .step-count .ensures)) (after .1), taken .1)
 
 step-count-requires : tie.Need-step-count-requires Inv-loop μ-loop
 step-count-requires c κs = c .before .before .before .pre .0 .known
@@ -99,36 +105,55 @@ put-code-requires c κs =
     let full = start .pre .0 in
     omega (arith, length-code-line (start .args .q) (start .args .u) (full .known) (full .code), start .pre .1 .0 .1)
 
+start-heights-requires : tie.Need-start-heights-requires Inv-loop μ-loop
+start-heights-requires c κs = c .before .before .before .before .before .before .before .before .pre .0 .known
+
 loop-holds : tie.Need-loop-holds Inv-loop μ-loop
 unfolding stepLines
 loop-holds c =
-    let start = c .before .before .before .before .before .before .before .before in
-    (omega arith, refl, refl, start .pre .1 .1, wrote-nothing (c .before .before .put-code .last .0) (c .before .before .put-code .result))
+    let start = c .before .before .before .before .before .before .before .before .before in
+    let known = start .pre .0 .known in
+    let heights = c .start-heights .ensures in (
+      omega arith,
+      refl,
+      refl,
+      start .pre .1 .1,
+      wrote-nothing (c .before .before .before .put-code .last .0) (c .before .before .before .put-code .result),
+      start-many (start .args .q) (c .start-heights .result) known heights,
+      heights .long,
+      below-start (start .args .q) known (c .start-heights .result) heights (start .args .u) (start .args .row .now),
+    )
+
+slice-aggregate-take-step : tie.Need-slice-aggregate-take-step Inv-loop μ-loop
+slice-aggregate-take-step c = sym (c .before .before .before .loop .inv .6)
 
 take-step-requires : tie.Need-take-step-requires Inv-loop μ-loop
 take-step-requires c κs =
-    let head = c .before .before in
+    let head = c .before .before .before in
     let known = start head .pre .0 .known in (
-      known,
-      omega (arith, large head, sizes (start head .args .q) known .area),
-      omega (arith, c .before .loop-test .taken, counted head .step-count .ensures),
+      (
+        known,
+        omega (arith, large head, sizes (start head .args .q) known .area),
+        omega (arith, c .before .before .loop-test .taken, counted head .step-count .ensures),
+      ),
+      head .loop .inv .5,
     )
 
 sub-put-step-line : tie.Need-sub-put-step-line Inv-loop μ-loop
-sub-put-step-line c = omega (arith, c .before .before .before .before .before .loop-test .taken)
+sub-put-step-line c = omega (arith, c .before .before .before .before .before .before .before .loop-test .taken)
 
 sub-put-step-line-2 : tie.Need-sub-put-step-line-2 Inv-loop μ-loop
-sub-put-step-line-2 c = omega (arith, c .before .before .before .before .before .loop-test .taken)
+sub-put-step-line-2 c = omega (arith, c .before .before .before .before .before .before .before .loop-test .taken)
 
 put-step-line-requires : tie.Need-put-step-line-requires Inv-loop μ-loop
 put-step-line-requires c κs =
-    let step = c .before .before .before .before in
-    let head = step .before .before .before in
+    let step = c .before .before .before .before .before in
+    let head = step .before .before .before .before in
     let known = start head .pre .0 .known in
     let after = next-state step in (
       area-of known (omega (arith, large head, step .take-step .kept .1 .1 .1 .0, sizes (start head .args .q) known .area)),
       (
-        (omega (arith, few-steps head), omega (arith, reached head, few-steps head, long head, step .before .before .loop-test .taken)),
+        (omega (arith, few-steps head), omega (arith, reached head, few-steps head, long head, step .before .before .before .loop-test .taken)),
         record { state = _; shows = after .0; voted = after .1 },
       ),
     )
@@ -142,18 +167,21 @@ loop-less c = search needs
 loop-again : tie.Need-loop-again Inv-loop μ-loop
 loop-again c =
     let line = c .before .before in
-    let step = line .before .before .before .before .before in
-    let head = step .before .before .before in
+    let step = line .before .before .before .before .before .before in
+    let head = step .before .before .before .before in
     let a = start head .args in
     let t = head .loop .t in
     let next = stateAfter (a .q) (a .u) (a .row .now) (suc t) in
     let after = next-state step in
     let written = rw (weight-is (a .q) t (counted head .step-count .ensures)) at (line .put-step-line .ensures next (after .0) (after .1)) in (
-      omega (arith, step .before .before .loop-test .taken),
+      omega (arith, step .before .before .before .loop-test .taken),
       line .put-step-line .kept .0 ∙ head .loop .inv .1,
       step .take-step .kept .1 .1 .1 .0 ∙ head .loop .inv .2,
       rw add-one (after .0),
       lines-more (a .q) (a .u) (a .row .now) t (steps-fit head) (head .loop .inv .4) written,
+      step .take-step .ensures .0,
+      step .take-step .kept .1 .1 .1 .1 .0 ∙ head .loop .inv .6,
+      after .2,
     )
 
 put-last-requires : tie.Need-put-last-requires Inv-loop μ-loop
@@ -191,7 +219,9 @@ put-lines-spec =
     μ-loop
     step-count-requires
     put-code-requires
+    start-heights-requires
     loop-holds
+    slice-aggregate-take-step
     take-step-requires
     sub-put-step-line
     sub-put-step-line-2
