@@ -15,7 +15,6 @@ use Rattle.algebra.specs.Functions.{Fn, shift, timesY, timesYs}
 use Rattle.algebra.specs.Interpolation.{unit}
 use Rattle.algebra.specs.Weights.{xPower, yPower}
 use Rattle.algebra.proofs.Ring.{add-zero, mul-zero, sub-self}
-use Rattle.algebra.proofs.Polynomials.{shift-at, shift-below}
 use Rattle.lists.proofs.Numbers.{lt-or-ge, same-or-not}
 use Rattle.symbols.specs.Rule.{Known, symbols, symbol, number}
 use Rattle.symbols.proofs.FieldLaws.{laws-of}
@@ -34,6 +33,7 @@ use Rattle.steps.proofs.HeightLaws.{sum-past}
 use Rattle.steps.proofs.ProductCells.{replaced-yes}
 use Rattle.steps.proofs.ReplaceLaws.{substituted-none, substituted-cells}
 use Rattle.steps.proofs.RowLaws.{plus-is, raised-is}
+use Rattle.steps.proofs.Turned.{shift-zeros}
 
 -- the same symbols have the same heights
 pub below-same : (q : ℕ) (heights : List ℕ) (S T : Cells q) → ((p r i : ℕ) → p < 2 * q → r < 2 * q → i < width q → S p r i ≡ T p r i)
@@ -54,14 +54,6 @@ module _ (q : ℕ) (known : Known q) where
   -- a sum of zeros
   nothing-added : (a b ρ : K) → a ≡ 𝟘 → b ≡ 𝟘 → a ⊕ ρ ⊗ b ≡ 𝟘
   nothing-added a b ρ ea eb = rw (ea, eb) (simp (mul-zero (laws-of q known), add-zero (laws-of q known)))
-
-  -- x^c times a row of zeros, from a place on
-  shift-zeros : (c : ℕ) (a : ℕ → K) (i : ℕ) → (c ≤ i → a (i - c) ≡ 𝟘) → shift (symbols q) q c a i ≡ 𝟘
-  shift-zeros c a i zeros =
-      ⊎-elim
-      (λ (l : i < c). shift-below (symbols q) q c a i l)
-      (λ (l : c ≤ i). shift-at (symbols q) q c a i l ∙ zeros l)
-      (lt-or-ge i c)
 
   -- the first symbols of a row of zeros
   first-zero : (n : ℕ) (a : ℕ → K) (i : ℕ) → a i ≡ 𝟘 → firstSymbols q n a i ≡ 𝟘
@@ -91,7 +83,7 @@ module _ (q : ℕ) (known : Known q) where
               ∙ plus-is q known (S f r) ρ c (firstSymbols q (rowHeight q n r) (S g r)) i
               ∙ nothing-added (S f r i) (shift (symbols q) q c (firstSymbols q (rowHeight q n r) (S g r)) i) ρ
               (below .above f r i hf hr hi (high .0))
-              (shift-zeros c (firstSymbols q (rowHeight q n r) (S g r)) i
+              (shift-zeros (symbols q) q c (firstSymbols q (rowHeight q n r) (S g r)) i
               (λ l. first-zero (rowHeight q n r) (S g r) (i - c) (below .above g r (i - c) hg hr (omega arith) (omega (arith, high .1)))))))
               (λ ne.
               rows-out q f 0 (2 * q) F S p r i (λ e. absurd (ne e))
@@ -139,7 +131,7 @@ module _ (q : ℕ) (known : Known q) where
             (all-rows f F S r i (omega arith)
             ∙ raised-is q known (S f r) ρ c (S g r) i
             ∙ nothing-added (shift (symbols q) q c (S f r) i) (S g r i) ρ
-            (shift-zeros c (S f r) i (λ l. below .above f r (i - c) hf hr (omega arith) (omega (arith, high .0))))
+            (shift-zeros (symbols q) q c (S f r) i (λ l. below .above f r (i - c) hf hr (omega arith) (omega (arith, high .0))))
             (below .above g r i hg hr hi (high .1))))
             (λ ne.
             rows-out q f 0 (2 * q) F S p r i (λ e. absurd (ne e))
@@ -183,7 +175,7 @@ module _ (q : ℕ) (known : Known q) where
   unfolding timesYs timesY
   y-zero zero j i hb hj elsewhere = one-zero j i elsewhere
   y-zero (suc b) zero i hb hj elsewhere =
-      shift-zeros (q + 1) (timesYs (symbols q) q b (one (symbols q) q) (q - 1)) i (λ l. y-zero b (q - 1) (i - (q + 1)) (omega arith) (omega arith) (inl (λ e. omega arith)))
+      shift-zeros (symbols q) q (q + 1) (timesYs (symbols q) q b (one (symbols q) q) (q - 1)) i (λ l. y-zero b (q - 1) (i - (q + 1)) (omega arith) (omega arith) (inl (λ e. omega arith)))
   y-zero (suc b) (suc zero) i hb hj elsewhere =
       ap (λ (y : K). timesYs (symbols q) q b (one (symbols q) q) 0 i ⊖ y) (y-zero b (q - 1) i (omega arith) (omega arith) (inl (λ e. omega arith)))
       ∙ ap (λ (y : K). y ⊖ 𝟘)

@@ -10,7 +10,7 @@ use lib.ListN.{getD}
 use borrow.Author.Tests.{lt-ltb, le-ltb}
 use Rattle.algebra.specs.Symbols.{Symbols}
 use Rattle.algebra.specs.Functions.{shift, timesX, timesYs}
-use Rattle.algebra.proofs.Ring.{mul-add, add-assoc}
+use Rattle.algebra.proofs.Ring.{mul-add, add-assoc, add-zero, mul-zero}
 use Rattle.lists.proofs.Numbers.{lt-or-ge, same-or-not}
 use Rattle.symbols.specs.Rule.{Known, symbols}
 use Rattle.symbols.proofs.FieldLaws.{laws-of}
@@ -18,9 +18,9 @@ use Rattle.symbols.proofs.Bytes.{minus-is-plus}
 use Rattle.steps.specs.Area.{Apart, Cells, withRows, sourceRow, sourceShift, plusMultiple, rowAdded, functionOf, lowFunctionOf, plusProduct, productRowAdded, productAdded, upperOf, lowerOf, replacedZ}
 use Rattle.steps.specs.declared.products.Part.{Part}
 use Rattle.steps.proofs.Cells.{rows-in, rows-out, rows-are, row-here, row-there, row-is}
-use Rattle.steps.proofs.FirstSymbols.{first-cong}
+use Rattle.steps.proofs.FirstSymbols.{first-cong, first-out}
 use Rattle.steps.proofs.RowLaws.{plus-is}
-use Rattle.steps.proofs.Turned.{shift-cong, timesYs-cong, product-plain, product-round}
+use Rattle.steps.proofs.Turned.{shift-cong, shift-zeros, timesYs-cong, timesYs-zeros, product-plain, product-round}
 
 module _ (q : ℕ) (known : Known q) where
   infixl 65 _⊕_ _⊖_
@@ -163,6 +163,18 @@ module _ (q : ℕ) (known : Known q) where
     product-none S p r i =
         sym (rows-out q (to .polynomial) (to .row) 0 (plusProduct q to from height a b ρ S) S p r i
         (λ e. ⊎-elim (λ (h : r < to .row). inl h) (λ (h : to .row ≤ r). inr (omega arith)) (lt-or-ge r (to .row))))
+
+  -- where no row of the other part has a symbol, nothing is added
+  pub product-nothing : (to from : Part) (a b : ℕ) (ρ : K) (n : ℕ) → n ≤ q → (S : Cells q) (p r i : ℕ) → S p r i ≡ productAdded q to from 0 a b ρ n S p r i
+  unfolding productAdded timesX
+  product-nothing to from a b ρ n few S =
+      rows-are q (to .polynomial) (to .row) n (plusProduct q to from 0 a b ρ S) S S
+      (λ j i h. sym (plusProduct-is to from 0 a b ρ S j i
+      ∙ ap (λ (y : K). S (to .polynomial) (to .row + j) i ⊕ ρ ⊗ y)
+      (shift-zeros (symbols q) q a (timesYs (symbols q) q b (lowFunctionOf q 0 from S) j) i
+      (λ l. timesYs-zeros (symbols q) q (laws-of q known) (lowFunctionOf q 0 from S) (λ k m hk. first-out q 0 (functionOf q from S k) m (omega arith)) b j (i - a) (omega arith)))
+      ∙ simp (mul-zero (laws-of q known), add-zero (laws-of q known))))
+      (λ p r i out. refl)
 
   -- the two parts of a polynomial are apart
   pub parts-apart : (p : ℕ) → p < 2 * q → Apart q (lowerOf q p) (upperOf q p)

@@ -81,6 +81,24 @@ module _ (𝓢 : Symbols) (q : ℕ) where
       ∙ ap (λ (y : K). timesYs 𝓢 q b G 0 i ⊖ y) (timesYs-cong F G b (q - 1) i h (omega arith))
   timesYs-cong F G (suc b) (suc (suc j)) i h k = timesYs-cong F G b (suc j) i h (omega arith)
 
+  -- x^c and y^b times zeros
+  pub shift-zeros : (c : ℕ) (a : ℕ → K) (i : ℕ) → (c ≤ i → a (i - c) ≡ 𝟘) → shift 𝓢 q c a i ≡ 𝟘
+  shift-zeros c a i zeros =
+      ⊎-elim
+      (λ (l : i < c). shift-below 𝓢 q c a i l)
+      (λ (l : c ≤ i). shift-at 𝓢 q c a i l ∙ zeros l)
+      (lt-or-ge i c)
+
+  pub timesYs-zeros : Laws 𝓢 q → (F : Fn 𝓢 q) → ((j i : ℕ) → j < q → F j i ≡ 𝟘) → (b j i : ℕ) → j < q → timesYs 𝓢 q b F j i ≡ 𝟘
+  unfolding timesYs timesY
+  timesYs-zeros 𝓛 F h zero j i k = h j i k
+  timesYs-zeros 𝓛 F h (suc b) zero i k = shift-zeros (q + 1) (timesYs 𝓢 q b F (q - 1)) i (λ l. timesYs-zeros 𝓛 F h b (q - 1) (i - (q + 1)) (omega arith))
+  timesYs-zeros 𝓛 F h (suc b) (suc zero) i k =
+      ap (λ (y : K). y ⊖ timesYs 𝓢 q b F (q - 1) i) (timesYs-zeros 𝓛 F h b 0 i (omega arith))
+      ∙ ap (λ (y : K). 𝟘 ⊖ y) (timesYs-zeros 𝓛 F h b (q - 1) i (omega arith))
+      ∙ sub-self 𝓛 𝟘
+  timesYs-zeros 𝓛 F h (suc b) (suc (suc j)) i k = timesYs-zeros 𝓛 F h b (suc j) i (omega arith)
+
   -- y^0 and y^(b+1)
   timesYs-zero : (F : Fn 𝓢 q) (j i : ℕ) → timesYs 𝓢 q 0 F j i ≡ F j i
   unfolding timesYs

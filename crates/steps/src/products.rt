@@ -87,7 +87,7 @@ fn add_product_row(
     );
 }
 
-// The same in all rows of the part.
+// The same in all rows of the part; there is nothing to do where none has a symbol.
 pub fn add_product(
     work: &mut [u8],
     q: usize,
@@ -103,6 +103,9 @@ pub fn add_product(
     requires { ⌜ (b < q) × (a ≤ 1000) ⌝ }
     ensures { λ _. ⌜ ((ρ : Sym q) → Multiplies q products ρ → Turns q (now (work .entry)) (now (work .exit)) (productAdded q to from height a b ρ q)) ⌝ }
 {
+    if height == 0 {
+        return;
+    }
     for j in 0..q {
         add_product_row(work, q, to, from, j, height, a, b, products);
     }

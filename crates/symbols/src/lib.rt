@@ -62,13 +62,38 @@ fn part_of(table: &[u8], start: usize, n: usize) -> [u8; 16]
     row
 }
 
+// Sixteen bytes of a table from a start on, copied at once.
+fn sixteen_of(table: &[u8], start: usize) -> [u8; 16]
+    requires { ⌜ start + 16 ≤ length (now table) ⌝ }
+    ensures { λ r. ⌜ r ≡ put (replicate 16 0) 0 16 (after (now (table .entry)) start) ⌝ }
+{
+    [
+        table[start],
+        table[start + 1],
+        table[start + 2],
+        table[start + 3],
+        table[start + 4],
+        table[start + 5],
+        table[start + 6],
+        table[start + 7],
+        table[start + 8],
+        table[start + 9],
+        table[start + 10],
+        table[start + 11],
+        table[start + 12],
+        table[start + 13],
+        table[start + 14],
+        table[start + 15],
+    ]
+}
+
 // The products of `a` by all symbols, for loops with one factor: place b holds the product by b.
 pub fn products_of(q: usize, a: u8) -> [u8; 16]
     requires { ⌜ Known q ⌝ }
     ensures { λ r. ⌜ r ≡ productRow q a ⌝ }
 {
     if q == 4 {
-        part_of(&tables::PRODUCTS_4, (a % 16) as usize * 16, 16)
+        sixteen_of(&tables::PRODUCTS_4, (a % 16) as usize * 16)
     } else {
         part_of(&tables::PRODUCTS_2, (a % 4) as usize * 4, 4)
     }

@@ -6,6 +6,18 @@ use borrow.Author.Needs.{needs}
 use Rattle.symbols.proofs.products_of.Statement.{statement}
 use Rattle.symbols.proofs.products_of.Tie as tie
 
+slice-aggregate-sixteen-of : tie.Need-slice-aggregate-sixteen-of
+slice-aggregate-sixteen-of c = search needs
+
+cast-sixteen-of : tie.Need-cast-sixteen-of
+cast-sixteen-of c = search needs
+
+mul-sixteen-of : tie.Need-mul-sixteen-of
+mul-sixteen-of c = search needs
+
+sixteen-of-requires : tie.Need-sixteen-of-requires
+sixteen-of-requires c κs = search needs
+
 slice-aggregate-part-of : tie.Need-slice-aggregate-part-of
 slice-aggregate-part-of c = search needs
 
@@ -18,26 +30,14 @@ mul-part-of c = search needs
 part-of-requires : tie.Need-part-of-requires
 part-of-requires c κs = search needs
 
-slice-aggregate-part-of-2 : tie.Need-slice-aggregate-part-of-2
-slice-aggregate-part-of-2 c = search needs
-
-cast-part-of-2 : tie.Need-cast-part-of-2
-cast-part-of-2 c = search needs
-
-mul-part-of-2 : tie.Need-mul-part-of-2
-mul-part-of-2 c = search needs
-
-part-of-requires-2 : tie.Need-part-of-requires-2
-part-of-requires-2 c κs = search needs
-
 returns : tie.Need-returns
 unfolding computing
-returns c = c .part-of .ensures ∙ (rw (c .before .before .if1 .taken) (row-of-table 4 (c .before .before .before .args .a)))
+returns c = c .sixteen-of .ensures ∙ (rw (c .before .before .if1 .taken) (row-of-table 4 (c .before .before .before .args .a)))
 
 returns-2 : tie.Need-returns-2
 unfolding computing
 returns-2 c =
-    c .part-of2 .ensures ∙
+    c .part-of .ensures ∙
     (rw (known-other _ (c .before .before .before .pre) (c .before .before .if1 .left))
     (row-of-table 2 (c .before .before .before .args .a)))
 
@@ -45,13 +45,13 @@ pub products-of-spec : {M : Type 1} → statement M
 products-of-spec =
     tie.close
     (tie.spec
+    slice-aggregate-sixteen-of
+    cast-sixteen-of
+    mul-sixteen-of
+    sixteen-of-requires
     slice-aggregate-part-of
     cast-part-of
     mul-part-of
     part-of-requires
-    slice-aggregate-part-of-2
-    cast-part-of-2
-    mul-part-of-2
-    part-of-requires-2
     returns
     returns-2)
