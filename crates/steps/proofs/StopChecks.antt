@@ -17,7 +17,7 @@ module _ (q u steps : ℕ) (row work output : List ℕ) where
       → (Refused why ≡ stopAnswer q u steps row work output) × (work ≡ stopWork q u steps row work output) × (output ≡ stopOutput q u steps row work output)
   unfolding stopAnswer stopWork stopOutput
   stop-refused r =
-      (sym (refused Refused Done r), sym (refused (λ why. work) (pictureAfter q u row steps ++ drop (areaSize q) work) r), sym (refused (λ why. output) (votesAfter q u row steps ++ drop (dimension q u) output) r))
+      (sym (refused Refused Done r), sym (refused (λ why. work) _ r), sym (refused (λ why. output) _ r))
 
   -- otherwise the picture and the votes are left
   pub stop-done : Passes (stopChecks q u steps row work output)
