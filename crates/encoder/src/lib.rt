@@ -7,6 +7,7 @@ ghost use mathlib.Core.List.{_++_};
 ghost use Prim.Native.Nat.{_+_, _*_, _<_, _≤_};
 ghost use lib.ListN.{length, drop};
 ghost use Rattle.symbols.specs.Rule.{Known};
+ghost use Rattle.symbols.specs.Tables.{HasProducts};
 ghost use Rattle.curve.specs.Codes.{pointCount, dimension};
 ghost use Rattle.encoder.specs.Stages.{Encodable, IsValue, IsSpread, IsColumn, IsFibre};
 ghost use Rattle.encoder.specs.Encoding.{rowNumbers, encodeAnswer, encodeOutput};
@@ -51,11 +52,11 @@ fn spread(q: usize, u: usize, message: &[u8]) -> [u8; 64]
 }
 
 // The values at x of the polynomials in x that stand at the powers of y.
-fn column(q: usize, x: u8, places: &[u8], width: usize) -> [u8; 4]
-    requires { ⌜ Known q × (0 < width) × (width ≤ 16) × (length (now places) ≡ 64) ⌝ }
+fn column(table: &[u8], q: usize, x: u8, places: &[u8], width: usize) -> [u8; 4]
+    requires { ⌜ Known q × (0 < width) × (width ≤ 16) × (length (now places) ≡ 64) × HasProducts q (now table) ⌝ }
     ensures { λ r. ⌜ IsColumn q width x (now (places .entry)) r ⌝ }
 {
-    let products = symbols::products_of(q, x);
+    let products = symbols::products_in(table, q, x);
     let mut values = [0u8; 4];
     let mut j = 0;
     while j < q {
@@ -68,15 +69,15 @@ fn column(q: usize, x: u8, places: &[u8], width: usize) -> [u8; 4]
 }
 
 // The symbols of the row at the points above x, from the values there.
-fn fill_fibre(q: usize, x: usize, values: &[u8], row: &mut [u8])
-    requires { ⌜ Known q × (x < q * q) × (length (now values) ≡ 4) × (pointCount q ≤ length (now row)) ⌝ }
+fn fill_fibre(table: &[u8], q: usize, x: usize, values: &[u8], row: &mut [u8])
+    requires { ⌜ Known q × (x < q * q) × (length (now values) ≡ 4) × (pointCount q ≤ length (now row)) × HasProducts q (now table) ⌝ }
     ensures { λ r. ⌜ IsFibre q x (now (values .entry)) (now (row .entry)) (now (row .exit)) ⌝ }
 {
     let ordinates = curve::ordinates(q, x as u8);
     let start = x * q;
     let mut b = 0;
     while b < q {
-        let products = symbols::products_of(q, ordinates[b]);
+        let products = symbols::products_in(table, q, ordinates[b]);
         row[start + b] = value_in(&products, &values[..q]);
         b += 1;
     }
@@ -90,10 +91,11 @@ pub fn encode_row(q: usize, u: usize, message: &[u8], row: &mut [u8])
 {
     let places = spread(q, u, message);
     let width = u / q + 1;
+    let table = symbols::table_of(q);
     let mut x = 0;
     while x < q * q {
-        let values = column(q, x as u8, &places, width);
-        fill_fibre(q, x, &values, row);
+        let values = column(&table, q, x as u8, &places, width);
+        fill_fibre(&table, q, x, &values, row);
         x += 1;
     }
 }

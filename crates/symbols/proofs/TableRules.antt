@@ -1,6 +1,7 @@
 -- What stands where in the tables of products and inverses.
 -- Assumes nothing.
 use mathlib.Core.Path.{_≡_, sym, ap, ap₂, _∙_}
+use mathlib.Core.List.{List}
 use Prim.Native.Nat.{ℕ, _+_, _*_, _%_, _<_, _≤_}
 use native.Mathlib.Nat.{mod-lt, mod-eq-of-lt, zero-add}
 use native.Mathlib.Omega.{arith}
@@ -9,7 +10,7 @@ use Rattle.lists.specs.Tables.{from, tab, joinFrom, join, put}
 use Rattle.lists.proofs.Tables.{length-tab, getD-tab, getD-join}
 use Rattle.lists.proofs.Put.{put-same, put-in}
 use Rattle.symbols.specs.Rule.{size, some, reducedBy, twice, chosen, product, powerOf, inverseOf, Below, into, Known, Sym, symbols, number, symbol}
-use Rattle.symbols.specs.Tables.{productNumber, inverseNumber, productTable, inverseTable, productRow, after}
+use Rattle.symbols.specs.Tables.{productNumber, inverseNumber, productTable, inverseTable, productRow, after, HasProducts}
 use Rattle.symbols.proofs.FieldLaws.{laws-of}
 use Rattle.symbols.proofs.Bytes.{size-known, square-small, symbol-of-remainder}
 
@@ -52,6 +53,13 @@ pub row-of-table : (q a : ℕ) → put (replicate 16 0) 0 (size q) (after (produ
 unfolding productRow
 row-of-table q a =
     put-same (replicate 16 0) 0 (size q) (after (productTable q) (a % size q * size q)) (productNumber q a) (products-after q a)
+
+-- the same of any list that starts with the table
+pub row-of-list : (q a : ℕ) (table : List ℕ) → HasProducts q table → put (replicate 16 0) 0 (size q) (after table (a % size q * size q)) ≡ productRow q a
+unfolding productRow after
+row-of-list q a table has =
+    put-same (replicate 16 0) 0 (size q) (after table (a % size q * size q)) (productNumber q a)
+    (λ b h. has .at (a % size q) b (mod-lt a (some q)) h ∙ ap (λ y. productNumber q (a % size q) y) (sym (mod-eq-of-lt h)) ∙ product-of-remainders q a b)
 
 -- the row of a holds at each place below q² the product of a by that place's symbol
 pub row-at : (q a b : ℕ) → size q ≤ 16 → b < size q

@@ -9,7 +9,7 @@ ghost use lib.ListN.{length, replicate};
 ghost use lib.Bits.{bitXor};
 ghost use Rattle.algebra.specs.Symbols.{power as powerOf};
 ghost use Rattle.symbols.specs.Rule.{isKnown, Known, symbols, number, symbol, anyBeyond};
-ghost use Rattle.symbols.specs.Tables.{productRow, after};
+ghost use Rattle.symbols.specs.Tables.{productRow, after, HasProducts};
 ghost use Rattle.lists.specs.Tables.{put};
 
 // Whether there is a field for this q.
@@ -96,6 +96,34 @@ pub fn products_of(q: usize, a: u8) -> [u8; 16]
         sixteen_of(&tables::PRODUCTS_4, (a % 16) as usize * 16)
     } else {
         part_of(&tables::PRODUCTS_2, (a % 4) as usize * 4, 4)
+    }
+}
+
+// The table of q in the first places of a list, for callers that take many of its rows.
+pub fn table_of(q: usize) -> [u8; 256]
+    requires { ⌜ Known q ⌝ }
+    ensures { λ r. ⌜ HasProducts q r ⌝ }
+{
+    if q == 4 {
+        return tables::PRODUCTS_4;
+    }
+    let products = tables::PRODUCTS_2;
+    let mut table = [0u8; 256];
+    for i in 0..16 {
+        table[i] = products[i];
+    }
+    table
+}
+
+// The products of `a` by all symbols, from such a list.
+pub fn products_in(table: &[u8], q: usize, a: u8) -> [u8; 16]
+    requires { ⌜ Known q × HasProducts q (now table) ⌝ }
+    ensures { λ r. ⌜ r ≡ productRow q a ⌝ }
+{
+    if q == 4 {
+        sixteen_of(table, (a % 16) as usize * 16)
+    } else {
+        part_of(table, (a % 4) as usize * 4, 4)
     }
 }
 

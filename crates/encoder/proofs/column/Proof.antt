@@ -16,23 +16,23 @@ use Rattle.encoder.proofs.column.Statement.{statement}
 use Rattle.encoder.proofs.column.Tie as tie
 
 abbrev Inv-loop : tie.InvT-loop
-Inv-loop q x places width products values₀ j₀ values j =
+Inv-loop table q x places width products values₀ j₀ values j =
     (j ≤ q) × ((f : Fn (symbols q) q) → HoldsFunction q f places → values ≡ put (replicate 4 0) 0 j (columnNumber q f width x))
 
 abbrev μ-loop : tie.MeasureT-loop
-μ-loop q x places width products values₀ j₀ values j = q - j
+μ-loop table q x places width products values₀ j₀ values j = q - j
 
-products-of-requires : tie.Need-products-of-requires Inv-loop μ-loop
-products-of-requires c κs = c .before .pre .0
+products-in-requires : tie.Need-products-in-requires Inv-loop μ-loop
+products-in-requires c κs = (c .before .before .pre .0, c .before .before .pre .4)
 
 loop-holds : tie.Need-loop-holds Inv-loop μ-loop
 loop-holds c = (omega arith, λ f held. sym (put-none _ _ _))
 
 mul-start : tie.Need-mul-start Inv-loop μ-loop
-mul-start c = omega (arith, known-high _ (c .before .before .before .before .pre .0))
+mul-start c = omega (arith, known-high _ (c .before .before .before .before .before .pre .0))
 
 add-end : tie.Need-add-end Inv-loop μ-loop
-add-end c = omega (arith, known-high _ (c .before .before .before .before .pre .0))
+add-end c = omega (arith, known-high _ (c .before .before .before .before .before .pre .0))
 
 sub-value-in : tie.Need-sub-value-in Inv-loop μ-loop
 sub-value-in c = omega arith
@@ -41,15 +41,15 @@ part-value-in-start : tie.Need-part-value-in-start Inv-loop μ-loop
 part-value-in-start c = search needs
 
 part-value-in-end : tie.Need-part-value-in-end Inv-loop μ-loop
-part-value-in-end c = omega (arith, known-high _ (c .before .before .before .before .before .pre .0))
+part-value-in-end c = omega (arith, known-high _ (c .before .before .before .before .before .before .pre .0))
 
 value-in-requires : tie.Need-value-in-requires Inv-loop μ-loop
 value-in-requires c κs =
-    let start = c .before .before .before .before .before .before in
+    let start = c .before .before .before .before .before .before .before in
     simp (length-take, length-drop) (omega (arith, known-high _ (start .pre .0)))
 
 array-write-values : tie.Need-array-write-values Inv-loop μ-loop
-array-write-values c = omega (arith, known-high _ (c .before .before .before .before .before .before .before .pre .0))
+array-write-values c = omega (arith, known-high _ (c .before .before .before .before .before .before .before .before .pre .0))
 
 add-j : tie.Need-add-j Inv-loop μ-loop
 add-j c = search needs
@@ -60,7 +60,7 @@ loop-less c = search needs
 loop-again : tie.Need-loop-again Inv-loop μ-loop
 loop-again c =
     let at = c .before .before .before .before in
-    let start = at .before .before .before in
+    let start = at .before .before .before .before in
     let q = start .args .q in
     let j = at .loop .j in
     let width = start .args .width in
@@ -68,16 +68,16 @@ loop-again c =
       search needs,
       λ f held. rw (at .loop .inv .1 f held)
           (put-next (replicate 4 0) j (columnNumber q f width (start .args .x)) (c .value-in .result)
-          (column-value q (start .pre .0) (at .before .products-of .result) (c .value-in .result) f (now (start .args .places))
+          (column-value q (start .pre .0) (at .before .products-in .result) (c .value-in .result) f (now (start .args .places))
           (start .args .x) j (j * 16 + width - j * 16)
-          (omega arith) (omega arith) (start .pre .3) held (at .before .products-of .ensures) (c .value-in .ensures)
+          (omega arith) (omega arith) (start .pre .3) held (at .before .products-in .ensures) (c .value-in .ensures)
           ∙ ap (λ m. columnNumber q f m (start .args .x) j) n)),
     )
 
 returns : tie.Need-returns Inv-loop μ-loop
 returns c =
     let at = c .before in
-    let args = at .before .before .before .args in
+    let args = at .before .before .before .before .args in
     let end : at .loop .j ≡ args .q = omega arith in
     λ f held. at .loop .inv .1 f held ∙ ap (λ n. put (replicate 4 0) 0 n (columnNumber (args .q) f (args .width) (args .x))) end
 
@@ -87,7 +87,7 @@ column-spec =
     (tie.spec
     Inv-loop
     μ-loop
-    products-of-requires
+    products-in-requires
     loop-holds
     mul-start
     add-end

@@ -17,11 +17,11 @@ use Rattle.encoder.proofs.encode_row.Statement.{statement}
 use Rattle.encoder.proofs.encode_row.Tie as tie
 
 abbrev Inv-loop : tie.InvT-loop
-Inv-loop q u message row₀ places width x₀ row x =
+Inv-loop q u message row₀ places width table x₀ row x =
     (x ≤ q * q) × (length row ≡ length row₀) × (row ≡ put row₀ 0 (x * q) (rowNumber q u message))
 
 abbrev μ-loop : tie.MeasureT-loop
-μ-loop q u message row₀ places width x₀ row x = q * q - x
+μ-loop q u message row₀ places width table x₀ row x = q * q - x
 
 spread-requires : tie.Need-spread-requires Inv-loop μ-loop
 spread-requires c κs =
@@ -42,21 +42,31 @@ add-width c =
           (start .pre .known),
     )
 
+table-of-requires : tie.Need-table-of-requires Inv-loop μ-loop
+table-of-requires c κs = c .before .before .before .pre .known
+
 loop-holds : tie.Need-loop-holds Inv-loop μ-loop
 loop-holds c = (omega arith, refl, rw zero-mul (sym (put-none _ _ _)))
 
 mul-loop : tie.Need-mul-loop Inv-loop μ-loop
-mul-loop c = omega (arith, square-small _ (c .before .before .before .before .pre .known))
+mul-loop c = omega (arith, square-small _ (c .before .before .before .before .before .pre .known))
 
-cast-column : tie.Need-cast-column Inv-loop μ-loop
-cast-column c = omega (arith, square-small _ (c .before .before .before .before .before .pre .known))
+-- the list that starts with the table has its 256 places
+table-long : (c : tie.At-loop Inv-loop μ-loop) → 256 ≡ length (c .before .table-of .result)
+table-long c = sym (c .before .table-of .ensures .long)
 
 slice-aggregate-column : tie.Need-slice-aggregate-column Inv-loop μ-loop
-slice-aggregate-column c = search needs
+slice-aggregate-column c = table-long (c .before .before)
+
+cast-column : tie.Need-cast-column Inv-loop μ-loop
+cast-column c = omega (arith, square-small _ (c .before .before .before .before .before .before .before .pre .known))
+
+slice-aggregate-column-2 : tie.Need-slice-aggregate-column-2 Inv-loop μ-loop
+slice-aggregate-column-2 c = search needs
 
 column-requires : tie.Need-column-requires Inv-loop μ-loop
 column-requires c κs =
-    let start = c .before .before .before .before .before .before in (
+    let start = c .before .before .before .before .before .before .before .before in (
       start .pre .known,
       omega arith,
       omega (
@@ -65,29 +75,31 @@ column-requires c κs =
             (code-below _ _ (start .pre .code)),
       ),
       search needs,
+      c .before .before .before .before .table-of .ensures,
     )
 
 slice-aggregate-fill-fibre : tie.Need-slice-aggregate-fill-fibre Inv-loop μ-loop
-slice-aggregate-fill-fibre c = search needs
+slice-aggregate-fill-fibre c = table-long (c .before .before .before .before .before)
+
+slice-aggregate-fill-fibre-2 : tie.Need-slice-aggregate-fill-fibre-2 Inv-loop μ-loop
+slice-aggregate-fill-fibre-2 c = search needs
 
 fill-fibre-requires : tie.Need-fill-fibre-requires Inv-loop μ-loop
 fill-fibre-requires c κs =
-    let at = c .before .before .before .before .before in
-    let start = at .before .before .before .before in
-    (start .pre .known, omega arith, search needs, omega (arith, start .pre .room, at .loop .inv .1))
+    let at = c .before .before .before .before .before .before .before in
+    let start = at .before .before .before .before .before in
+    (start .pre .known, omega arith, search needs, omega (arith, start .pre .room, at .loop .inv .1), at .before .table-of .ensures)
 
 add-x : tie.Need-add-x Inv-loop μ-loop
-add-x c =
-    let start = c .before .before .before .before .before .before .before .before .before .before .before .before in
-    omega (arith, square-small _ (start .pre .known))
+add-x c = omega (arith, square-small _ (c .before .before .before .before .before .before .before .before .before .before .before .before .before .before .before .pre .known))
 
 loop-less : tie.Need-loop-less Inv-loop μ-loop
 loop-less c = search needs
 
 loop-again : tie.Need-loop-again Inv-loop μ-loop
 loop-again c =
-    let at = c .before .before .before .before .before .before .before .before in
-    let start = at .before .before .before .before in
+    let at = c .before .before .before .before .before .before .before .before .before .before in
+    let start = at .before .before .before .before .before in
     let q = start .args .q in
     let u = start .args .u in
     let message = now (start .args .message) in
@@ -95,12 +107,12 @@ loop-again c =
     let small = code-below q u (start .pre .code) in
     let f = function q u message k in
     let places =
-    spread-function q u message k (start .pre .symbolic) (start .pre .long) (at .before .spread .result)
-    (at .before .spread .ensures) in
-    let values = c .before .before .before .before .before .column in
+    spread-function q u message k (start .pre .symbolic) (start .pre .long) (at .before .before .spread .result)
+    (at .before .before .spread .ensures) in
+    let values = c .before .before .before .before .before .before .column in
     let held = column-holds q k f (u / q + 1) (at .loop .x) (values .result) (values .ensures f places) in (
       omega arith,
-      c .before .before .fill-fibre .kept .1 .1 .1 .0 ∙ at .loop .inv .1,
+      c .before .before .fill-fibre .kept .1 .1 .1 .1 .0 ∙ at .loop .inv .1,
       c .before .before .fill-fibre .ensures _ held
           ∙ (rw (at .loop .inv .2) (next-column q u message k small (now (start .args .row)) (at .loop .x) (omega arith))),
     )
@@ -111,7 +123,7 @@ same-length c = c .before .loop .inv .1
 returns : tie.Need-returns Inv-loop μ-loop
 returns c =
     let at = c .before in
-    let start = at .before .before .before .before in
+    let start = at .before .before .before .before .before in
     let q = start .args .q in
     let message = now (start .args .message) in
     let end : at .loop .x ≡ q * q = omega arith in
@@ -127,12 +139,15 @@ encode-row-spec =
     spread-requires
     div-width
     add-width
+    table-of-requires
     loop-holds
     mul-loop
-    cast-column
     slice-aggregate-column
+    cast-column
+    slice-aggregate-column-2
     column-requires
     slice-aggregate-fill-fibre
+    slice-aggregate-fill-fibre-2
     fill-fibre-requires
     add-x
     loop-less

@@ -17,53 +17,53 @@ use Rattle.encoder.proofs.fill_fibre.Statement.{statement}
 use Rattle.encoder.proofs.fill_fibre.Tie as tie
 
 abbrev Inv-loop : tie.InvT-loop
-Inv-loop q x values row₀ ordinates start b₀ row b =
+Inv-loop table q x values row₀ ordinates start b₀ row b =
     (b ≤ q) × (length row ≡ length row₀) × ((v : ℕ → Sym q) → Holds q v q values → row ≡ put row₀ (x * q) b (fibreNumber q v x))
 
 abbrev μ-loop : tie.MeasureT-loop
-μ-loop q x values row₀ ordinates start b₀ row b = q - b
+μ-loop table q x values row₀ ordinates start b₀ row b = q - b
 
 cast-ordinates : tie.Need-cast-ordinates Inv-loop μ-loop
-cast-ordinates c = omega (arith, square-small _ (c .before .before .pre .0))
+cast-ordinates c = omega (arith, square-small _ (c .before .before .before .pre .0))
 
 ordinates-requires : tie.Need-ordinates-requires Inv-loop μ-loop
-ordinates-requires c κs = c .before .before .pre .0
+ordinates-requires c κs = c .before .before .before .pre .0
 
 mul-start : tie.Need-mul-start Inv-loop μ-loop
 mul-start c =
     omega (
       arith,
-      fibre-within _ (c .before .before .before .args .x) (c .before .before .before .pre .1),
+      fibre-within _ (c .before .before .before .before .args .x) (c .before .before .before .before .pre .1),
       count-small _
-          (c .before .before .before .pre .0),
+          (c .before .before .before .before .pre .0),
     )
 
 loop-holds : tie.Need-loop-holds Inv-loop μ-loop
 loop-holds c = (omega arith, refl, λ v held. sym (put-none _ _ _))
 
-array-read-products-of : tie.Need-array-read-products-of Inv-loop μ-loop
-array-read-products-of c = omega (arith, known-high _ (c .before .before .before .before .before .pre .0))
+array-read-products-in : tie.Need-array-read-products-in Inv-loop μ-loop
+array-read-products-in c = omega (arith, known-high _ (c .before .before .before .before .before .before .pre .0))
 
-products-of-requires : tie.Need-products-of-requires Inv-loop μ-loop
-products-of-requires c κs = c .before .before .before .before .before .pre .0
+products-in-requires : tie.Need-products-in-requires Inv-loop μ-loop
+products-in-requires c κs = (c .before .before .before .before .before .before .pre .0, c .before .before .before .before .before .before .pre .4)
 
 slice-aggregate-value-in : tie.Need-slice-aggregate-value-in Inv-loop μ-loop
 slice-aggregate-value-in c =
-    simp length-take (omega (arith, known-high _ (c .before .before .before .before .before .before .before .before .pre .0)))
+    simp length-take (omega (arith, known-high _ (c .before .before .before .before .before .before .before .before .before .pre .0)))
 
 value-in-requires : tie.Need-value-in-requires Inv-loop μ-loop
 value-in-requires c κs =
     simp length-take (omega
-    (arith, known-positive _ (c .before .before .before .before .before .before .before .before .pre .0)))
+    (arith, known-positive _ (c .before .before .before .before .before .before .before .before .before .pre .0)))
 
 add-row : tie.Need-add-row Inv-loop μ-loop
 add-row c =
-    let start = c .before .before .before .before .before .before .before .before .before in
+    let start = c .before .before .before .before .before .before .before .before .before .before in
     omega (arith, fibre-within _ (start .args .x) (start .pre .1), count-small _ (start .pre .0))
 
 slice-write-row : tie.Need-slice-write-row Inv-loop μ-loop
 slice-write-row c =
-    let start = c .before .before .before .before .before .before .before .before .before in
+    let start = c .before .before .before .before .before .before .before .before .before .before in
     omega (arith, fibre-within _ (start .args .x) (start .pre .1))
 
 add-b : tie.Need-add-b Inv-loop μ-loop
@@ -75,17 +75,17 @@ loop-less c = search needs
 loop-again : tie.Need-loop-again Inv-loop μ-loop
 loop-again c =
     let at = c .before .before .before .before .before in
-    let start = at .before .before .before .before in
+    let start = at .before .before .before .before .before in
     let q = start .args .q in
     let b = at .loop .b in
     let above = at .before .ordinates in (
       search needs,
       simp length-set (at .loop .inv .1),
       λ v held.
-          let e = c .before .before .before .products-of .ensures ∙ ap (λ l. productRow q (getD l b 0)) (above .ensures) in
+          let e = c .before .before .before .products-in .ensures ∙ ap (λ l. productRow q (getD l b 0)) (above .ensures) in
           rw (
             at .loop .inv .2 v held,
-            fibre-value q (start .pre .0) (c .before .before .before .products-of .result) (c .value-in .result) v
+            fibre-value q (start .pre .0) (c .before .before .before .products-in .result) (c .value-in .result) v
                 (now (start .args .values)) (start .args .x) b
                 (start .pre .1) (omega arith) (start .pre .2) held e (c .value-in .ensures),
           )
@@ -98,7 +98,7 @@ same-length c = c .before .loop .inv .1
 returns : tie.Need-returns Inv-loop μ-loop
 returns c =
     let at = c .before in
-    let start = at .before .before .before .before in
+    let start = at .before .before .before .before .before in
     let end : at .loop .b ≡ start .args .q = omega arith in
     λ v held. at .loop .inv .2 v held
     ∙ ap (λ n. put (now (start .args .row)) (start .args .x * start .args .q) n
@@ -114,8 +114,8 @@ fill-fibre-spec =
     ordinates-requires
     mul-start
     loop-holds
-    array-read-products-of
-    products-of-requires
+    array-read-products-in
+    products-in-requires
     slice-aggregate-value-in
     value-in-requires
     add-row
