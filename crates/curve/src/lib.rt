@@ -1,10 +1,11 @@
 // Weights, codes and points of the curve y^q + y = x^(q+1).
 use refusals::Refusal;
 ghost use mathlib.Core.Path.{_≡_};
-ghost use Prim.Native.Nat.{_+_, _<_};
+ghost use Prim.Native.Nat.{ℕ, _+_, _<_};
 ghost use Rattle.algebra.specs.Symbols.{power};
 ghost use Rattle.algebra.specs.Weights.{gap};
 ghost use Rattle.symbols.specs.Rule.{Known, symbols, number, symbol};
+ghost use Rattle.symbols.specs.Tables.{productRow};
 ghost use Rattle.curve.specs.Codes.{pointCount, isCode, dimension as dimensionOf, reach as reachOf};
 ghost use Rattle.curve.specs.Answers.{monomialOf, codeAnswer};
 ghost use Rattle.curve.specs.Ordinates.{setPlace, ordinatesAbove, pointNumbers};
@@ -120,11 +121,10 @@ pub fn reach(q: usize, u: usize) -> usize
 }
 
 // x^(q+1), by the products of x: it chooses the set of ordinates.
-fn norm(q: usize, x: u8) -> u8
+fn norm(q: usize, products: [u8; 16]) -> u8
     requires { ⌜ Known q ⌝ }
-    ensures { λ r. ⌜ r ≡ number q (power (symbols q) (symbol q x) (q + 1)) ⌝ }
+    ensures { λ r. ⌜ ((x : ℕ) → products ≡ productRow q x → r ≡ number q (power (symbols q) (symbol q x) (q + 1))) ⌝ }
 {
-    let products = symbols::products_of(q, x);
     let mut value = 1u8;
     let mut i = 0;
     while i < q + 1 {
@@ -146,12 +146,13 @@ fn set_place(norm: u8) -> usize
     }
 }
 
-// The ordinates above x, rising: q of them, and zeros up to four. They are the set chosen by x^(q+1), copied.
-pub fn ordinates(q: usize, x: u8) -> [u8; 4]
+// The ordinates above the x that has these products, rising: q of them, and zeros up to four. They are the set chosen by
+// x^(q+1), copied.
+pub fn ordinates(q: usize, products: [u8; 16]) -> [u8; 4]
     requires { ⌜ Known q ⌝ }
-    ensures { λ r. ⌜ r ≡ ordinatesAbove q x ⌝ }
+    ensures { λ r. ⌜ ((x : ℕ) → products ≡ productRow q x → r ≡ ordinatesAbove q x) ⌝ }
 {
-    let norm = norm(q, x);
+    let norm = norm(q, products);
     if q == 4 {
         let place = set_place(norm);
         SETS_4[place]
@@ -168,7 +169,7 @@ pub fn point_at(q: usize, m: usize) -> Point
 {
     if m < point_count(q) {
         let x = (m / q) as u8;
-        let above = ordinates(q, x);
+        let above = ordinates(q, symbols::products_of(q, x));
         Point { x, y: above[m % q] }
     } else {
         Point { x: 0, y: 0 }

@@ -1,12 +1,13 @@
 -- `curve::norm` meets its contract. The loop's invariant: the power reached. Assumes nothing.
 use mathlib.Core.Path.{_≡_, sym, ap, _∙_}
-use Prim.Native.Nat.{_+_, _-_, _≤_}
+use Prim.Native.Nat.{ℕ, _+_, _-_, _≤_}
 use native.Mathlib.Numerals.{add-one}
 use native.Mathlib.Omega.{arith}
 use borrow.Author.Needs.{needs}
 use Rattle.algebra.specs.Symbols.{power}
 use Rattle.algebra.proofs.Powers.{power-zero, power-suc}
 use Rattle.symbols.specs.Rule.{symbols, number, symbol}
+use Rattle.symbols.specs.Tables.{productRow}
 use Rattle.symbols.proofs.FieldLaws.{laws-of}
 use Rattle.symbols.proofs.Bytes.{known-high}
 use Rattle.symbols.proofs.TableRules.{row-number}
@@ -14,23 +15,18 @@ use Rattle.curve.proofs.norm.Statement.{statement}
 use Rattle.curve.proofs.norm.Tie as tie
 
 abbrev Inv-loop : tie.InvT-loop
-Inv-loop q x products value₀ i₀ value i = (i ≤ q + 1) × (value ≡ number q (power (symbols q) (symbol q x) i))
+Inv-loop q products value₀ i₀ value i =
+    (i ≤ q + 1) × ((x : ℕ) → products ≡ productRow q x → value ≡ number q (power (symbols q) (symbol q x) i))
 
 abbrev μ-loop : tie.MeasureT-loop
-μ-loop q x products value₀ i₀ value i = q + 1 - i
-
-products-of-requires : tie.Need-products-of-requires Inv-loop μ-loop
-products-of-requires c κs = c .pre
+μ-loop q products value₀ i₀ value i = q + 1 - i
 
 loop-holds : tie.Need-loop-holds Inv-loop μ-loop
-loop-holds c = (
-  omega arith,
-  sym (ap (number _) (power-zero (symbols _) (symbol _ (c .before .args .x)))
-      ∙ laws-of _ (c .before .pre) .number-one),
-)
+loop-holds c =
+    (omega arith, λ x e. sym (ap (number _) (power-zero (symbols _) (symbol _ x)) ∙ laws-of _ (c .pre) .number-one))
 
 add-loop : tie.Need-add-loop Inv-loop μ-loop
-add-loop c = omega (arith, known-high _ (c .before .before .pre))
+add-loop c = omega (arith, known-high _ (c .before .pre))
 
 cast-value : tie.Need-cast-value Inv-loop μ-loop
 cast-value c = search needs
@@ -39,7 +35,7 @@ array-read-value : tie.Need-array-read-value Inv-loop μ-loop
 array-read-value c = search needs
 
 add-i : tie.Need-add-i Inv-loop μ-loop
-add-i c = omega (arith, known-high _ (c .before .before .before .pre))
+add-i c = omega (arith, known-high _ (c .before .before .pre))
 
 loop-less : tie.Need-loop-less Inv-loop μ-loop
 loop-less c = search needs
@@ -47,23 +43,22 @@ loop-less c = search needs
 loop-again : tie.Need-loop-again Inv-loop μ-loop
 loop-again c =
     let at = c .before in
-    let start = at .before .before in
-    let q = start .args .q in
-    let x = symbol q (start .args .x) in (
+    let start = at .before in
+    let q = start .args .q in (
       search needs,
-      rw (at .before .products-of .ensures, at .loop .inv .1)
-          (row-number q (start .pre) (start .args .x) (power (symbols q) x (at .loop .i))
-          ∙ ap (number q) (sym (power-suc (symbols q) x (at .loop .i))
-          ∙ ap (power (symbols q) x) (sym (add-one (at .loop .i))))),
+      λ x e.
+          rw (e, at .loop .inv .1 x e)
+          (row-number q (start .pre) x (power (symbols q) (symbol q x) (at .loop .i))
+          ∙ ap (number q) (sym (power-suc (symbols q) (symbol q x) (at .loop .i))
+          ∙ ap (power (symbols q) (symbol q x)) (sym (add-one (at .loop .i))))),
     )
 
 returns : tie.Need-returns Inv-loop μ-loop
 returns c =
     let at = c .before in
-    let start = at .before .before in
-    let end : at .loop .i ≡ start .args .q + 1 = omega arith in
-    at .loop .inv .1 ∙ ap
-    (λ n. number (start .args .q) (power (symbols (start .args .q)) (symbol (start .args .q) (start .args .x)) n)) end
+    let q = at .before .args .q in
+    let end : at .loop .i ≡ q + 1 = omega arith in
+    λ x e. at .loop .inv .1 x e ∙ ap (λ n. number q (power (symbols q) (symbol q x) n)) end
 
 pub norm-spec : {M : Type 1} → statement M
 norm-spec =
@@ -71,7 +66,6 @@ norm-spec =
     (tie.spec
     Inv-loop
     μ-loop
-    products-of-requires
     loop-holds
     add-loop
     cast-value

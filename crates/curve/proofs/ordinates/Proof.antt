@@ -31,11 +31,11 @@ array-copy-out-result-2 c = search needs
 returns : tie.Need-returns
 unfolding ordinatesAbove ordinateSet sets4
 returns c =
-    rw (eq-eqb _ _ (c .before .before .if1 .taken), c .before .set-place .ensures, c .before .before .before .norm .ensures)
+    λ x e. rw (eq-eqb _ _ (c .before .before .if1 .taken), c .before .set-place .ensures, c .before .before .before .norm .ensures x e)
 
 returns-2 : tie.Need-returns-2
 unfolding ordinatesAbove ordinateSet sets2
-returns-2 c = rw (ne-eqb _ _ (c .before .if1 .left), c .before .before .norm .ensures)
+returns-2 c = λ x e. rw (ne-eqb _ _ (c .before .if1 .left), c .before .before .norm .ensures x e)
 
 pub ordinates-spec : {M : Type 1} → statement M
 ordinates-spec =

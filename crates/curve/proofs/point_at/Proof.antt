@@ -23,24 +23,27 @@ cast-x c =
       square-small _ (start .pre),
     )
 
+products-of-requires : tie.Need-products-of-requires
+products-of-requires c κs = search needs
+
 ordinates-requires : tie.Need-ordinates-requires
 ordinates-requires c κs = search needs
 
 rem-t8 : tie.Need-rem-t8
-rem-t8 c = known-positive _ (c .before .before .before .pre)
+rem-t8 c = known-positive _ (c .before .before .before .before .pre)
 
-array-read-t12 : tie.Need-array-read-t12
-array-read-t12 c =
-    let start = c .before .before .before in
+array-read-t13 : tie.Need-array-read-t13
+array-read-t13 c =
+    let start = c .before .before .before .before in
     omega (arith, mod-lt (start .args .m) (known-positive _ (start .pre)), known-high _ (start .pre))
 
 returns : tie.Need-returns
 returns c =
-    let start = c .before .before .before in
+    let start = c .before .before .before .before in
     let at =
     point-in (start .args .q) (start .args .m) (start .pre)
-    (rw (c .before .before .point-count .ensures) at (c .before .if1 .taken)) in
-    rw (c .ordinates .ensures) (λ i. record { x = at .0 i; y = at .1 i })
+    (rw (c .before .before .before .point-count .ensures) at (c .before .before .if1 .taken)) in
+    rw (c .ordinates .ensures _ (c .before .products-of .ensures)) (λ i. record { x = at .0 i; y = at .1 i })
 
 returns-2 : tie.Need-returns-2
 returns-2 c =
@@ -56,8 +59,9 @@ point-at-spec =
     point-count-requires
     div-x
     cast-x
+    products-of-requires
     ordinates-requires
     rem-t8
-    array-read-t12
+    array-read-t13
     returns
     returns-2)

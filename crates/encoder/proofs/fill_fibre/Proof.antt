@@ -23,47 +23,43 @@ Inv-loop table q x values row₀ ordinates start b₀ row b =
 abbrev μ-loop : tie.MeasureT-loop
 μ-loop table q x values row₀ ordinates start b₀ row b = q - b
 
-cast-ordinates : tie.Need-cast-ordinates Inv-loop μ-loop
-cast-ordinates c = omega (arith, square-small _ (c .before .before .before .pre .0))
+cast-products-in : tie.Need-cast-products-in Inv-loop μ-loop
+cast-products-in c = omega (arith, square-small _ (c .before .before .before .pre .0))
+
+products-in-requires : tie.Need-products-in-requires Inv-loop μ-loop
+products-in-requires c κs = (c .before .before .before .pre .0, c .before .before .before .pre .4)
 
 ordinates-requires : tie.Need-ordinates-requires Inv-loop μ-loop
-ordinates-requires c κs = c .before .before .before .pre .0
+ordinates-requires c κs = c .before .before .before .before .pre .0
 
 mul-start : tie.Need-mul-start Inv-loop μ-loop
 mul-start c =
-    omega (
-      arith,
-      fibre-within _ (c .before .before .before .before .args .x) (c .before .before .before .before .pre .1),
-      count-small _
-          (c .before .before .before .before .pre .0),
-    )
+    let start = c .before .before .before .before .before in
+    omega (arith, fibre-within _ (start .args .x) (start .pre .1), count-small _ (start .pre .0))
 
 loop-holds : tie.Need-loop-holds Inv-loop μ-loop
 loop-holds c = (omega arith, refl, λ v held. sym (put-none _ _ _))
 
 array-read-products-in : tie.Need-array-read-products-in Inv-loop μ-loop
-array-read-products-in c = omega (arith, known-high _ (c .before .before .before .before .before .before .pre .0))
+array-read-products-in c = omega (arith, known-high _ (c .before .before .before .before .before .before .before .pre .0))
 
-products-in-requires : tie.Need-products-in-requires Inv-loop μ-loop
-products-in-requires c κs = (c .before .before .before .before .before .before .pre .0, c .before .before .before .before .before .before .pre .4)
+products-in-requires-2 : tie.Need-products-in-requires-2 Inv-loop μ-loop
+products-in-requires-2 c κs = (c .before .before .before .before .before .before .before .pre .0, c .before .before .before .before .before .before .before .pre .4)
 
 slice-aggregate-value-in : tie.Need-slice-aggregate-value-in Inv-loop μ-loop
-slice-aggregate-value-in c =
-    simp length-take (omega (arith, known-high _ (c .before .before .before .before .before .before .before .before .before .pre .0)))
+slice-aggregate-value-in c = simp length-take (omega (arith, known-high _ (c .before .before .before .before .before .before .before .before .before .before .pre .0)))
 
 value-in-requires : tie.Need-value-in-requires Inv-loop μ-loop
-value-in-requires c κs =
-    simp length-take (omega
-    (arith, known-positive _ (c .before .before .before .before .before .before .before .before .before .pre .0)))
+value-in-requires c κs = simp length-take (omega (arith, known-positive _ (c .before .before .before .before .before .before .before .before .before .before .pre .0)))
 
 add-row : tie.Need-add-row Inv-loop μ-loop
 add-row c =
-    let start = c .before .before .before .before .before .before .before .before .before .before in
+    let start = c .before .before .before .before .before .before .before .before .before .before .before in
     omega (arith, fibre-within _ (start .args .x) (start .pre .1), count-small _ (start .pre .0))
 
 slice-write-row : tie.Need-slice-write-row Inv-loop μ-loop
 slice-write-row c =
-    let start = c .before .before .before .before .before .before .before .before .before .before in
+    let start = c .before .before .before .before .before .before .before .before .before .before .before in
     omega (arith, fibre-within _ (start .args .x) (start .pre .1))
 
 add-b : tie.Need-add-b Inv-loop μ-loop
@@ -75,17 +71,17 @@ loop-less c = search needs
 loop-again : tie.Need-loop-again Inv-loop μ-loop
 loop-again c =
     let at = c .before .before .before .before .before in
-    let start = at .before .before .before .before .before in
+    let start = at .before .before .before .before .before .before in
     let q = start .args .q in
     let b = at .loop .b in
-    let above = at .before .ordinates in (
+    let above = at .before .ordinates .ensures _ (at .before .before .products-in .ensures) in (
       search needs,
       simp length-set (at .loop .inv .1),
       λ v held.
-          let e = c .before .before .before .products-in .ensures ∙ ap (λ l. productRow q (getD l b 0)) (above .ensures) in
+          let e = c .before .before .before .products-in2 .ensures ∙ ap (λ l. productRow q (getD l b 0)) above in
           rw (
             at .loop .inv .2 v held,
-            fibre-value q (start .pre .0) (c .before .before .before .products-in .result) (c .value-in .result) v
+            fibre-value q (start .pre .0) (c .before .before .before .products-in2 .result) (c .value-in .result) v
                 (now (start .args .values)) (start .args .x) b
                 (start .pre .1) (omega arith) (start .pre .2) held e (c .value-in .ensures),
           )
@@ -98,7 +94,7 @@ same-length c = c .before .loop .inv .1
 returns : tie.Need-returns Inv-loop μ-loop
 returns c =
     let at = c .before in
-    let start = at .before .before .before .before .before in
+    let start = at .before .before .before .before .before .before in
     let end : at .loop .b ≡ start .args .q = omega arith in
     λ v held. at .loop .inv .2 v held
     ∙ ap (λ n. put (now (start .args .row)) (start .args .x * start .args .q) n
@@ -110,12 +106,13 @@ fill-fibre-spec =
     (tie.spec
     Inv-loop
     μ-loop
-    cast-ordinates
+    cast-products-in
+    products-in-requires
     ordinates-requires
     mul-start
     loop-holds
     array-read-products-in
-    products-in-requires
+    products-in-requires-2
     slice-aggregate-value-in
     value-in-requires
     add-row
