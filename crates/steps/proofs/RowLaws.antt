@@ -1,6 +1,6 @@
 -- What the loops over the bytes of rows do to the cells that the bytes show.
 -- Assumes nothing.
-use mathlib.Core.Path.{_≡_, refl, sym, ap, _∙_}
+use mathlib.Core.Path.{_≡_, refl, sym, ap, _∙_, subst}
 use mathlib.Core.List.{List, _++_}
 use mathlib.Core.Logic.{_⊎_, inl, inr, ⊎-elim}
 use Prim.Native.Nat.{ℕ, _+_, _-_, _*_, _%_, _<_, _≤_}
@@ -236,3 +236,7 @@ multiplies q m known =
           (row-at q m (number q a) (rw (size-known q known) small) (rw (size-known q known) below)
           ∙ ap (λ (b : Sym q). number q (symbols q ._⊗_ (symbol q m) b)) (laws-of q known .symbol-number a));
     }
+
+-- that of a symbol's number multiplies by the symbol
+pub multiplies-symbol : (q : ℕ) → Known q → (ρ : Sym q) → Multiplies q (productRow q (number q ρ)) ρ
+multiplies-symbol q known ρ = subst (Multiplies q (productRow q (number q ρ))) (laws-of q known .symbol-number ρ) (multiplies q (number q ρ) known)

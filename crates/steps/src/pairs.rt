@@ -4,6 +4,7 @@ ghost use mathlib.Core.Path.{_≡_};
 ghost use Prim.Native.Nat.{ℕ, _≤_, _<_};
 ghost use lib.ListN.{length};
 ghost use Rattle.symbols.specs.Rule.{Known, symbols};
+ghost use Rattle.symbols.specs.Tables.{HasProducts};
 ghost use Rattle.published.specs.Start.{Polynomials};
 ghost use Rattle.published.specs.Pairing.{kOf, isVoted, pairing};
 ghost use Rattle.steps.specs.Area.{Area, cellsOf, Starts, Narrow};
@@ -30,10 +31,18 @@ fn quotient_of(q: usize, total: usize) -> i64
 }
 
 // The numbers of pair i at step s, for a step that votes or does not.
-fn pair_of(work: &[u8], q: usize, heights: &[usize], i: usize, s: usize, voted: bool) -> Pair
+fn pair_of(
+    table: &[u8],
+    work: &[u8],
+    q: usize,
+    heights: &[usize],
+    i: usize,
+    s: usize,
+    voted: bool,
+) -> Pair
     requires { ⌜ Area q (length (now work)) ⌝ }
     requires { ⌜ Heights q (now heights) ⌝ }
-    requires { ⌜ (i < q) × (s ≤ 100) ⌝ }
+    requires { ⌜ (i < q) × (s ≤ 100) × HasProducts q (now table) ⌝ }
     ensures { λ pair. ⌜ Held q pair ⌝ }
     ensures { λ pair. ⌜ ((S : Polynomials (symbols q) q) (u : ℕ) → Narrow q (cellsOf q S) → Below q (now (heights .entry)) (cellsOf q S) → Starts q (now (work .entry)) (cellsOf q S) → isVoted q u s ≡ voted → NumbersOf q pair (pairing (symbols q) q u s S i)) ⌝ }
 {
@@ -59,7 +68,7 @@ fn pair_of(work: &[u8], q: usize, heights: &[usize], i: usize, s: usize, voted: 
     }
     let b = reading::coefficient_at(work, q, q + i, q + partner, k as usize);
     if voted {
-        let w = symbols::product(q, b, symbols::inverse(q, mu));
+        let w = symbols::product_in(table, q, b, symbols::inverse(q, mu));
         return Pair {
             partner,
             c,
@@ -78,10 +87,17 @@ fn pair_of(work: &[u8], q: usize, heights: &[usize], i: usize, s: usize, voted: 
 }
 
 // The numbers of all pairs.
-pub fn pairs_of(work: &[u8], q: usize, heights: &[usize], s: usize, voted: bool) -> [Pair; 4]
+pub fn pairs_of(
+    table: &[u8],
+    work: &[u8],
+    q: usize,
+    heights: &[usize],
+    s: usize,
+    voted: bool,
+) -> [Pair; 4]
     requires { ⌜ Area q (length (now work)) ⌝ }
     requires { ⌜ Heights q (now heights) ⌝ }
-    requires { ⌜ s ≤ 100 ⌝ }
+    requires { ⌜ (s ≤ 100) × HasProducts q (now table) ⌝ }
     ensures { λ pairs. ⌜ ((i : ℕ) → i < q → Held q (pairAt pairs i)) ⌝ }
     ensures { λ pairs. ⌜ ((S : Polynomials (symbols q) q) (u : ℕ) → Narrow q (cellsOf q S) → Below q (now (heights .entry)) (cellsOf q S) → Starts q (now (work .entry)) (cellsOf q S) → isVoted q u s ≡ voted → (i : ℕ) → i < q → NumbersOf q (pairAt pairs i) (pairing (symbols q) q u s S i)) ⌝ }
 {
@@ -94,7 +110,7 @@ pub fn pairs_of(work: &[u8], q: usize, heights: &[usize], s: usize, voted: bool)
     };
     let mut pairs = [none; 4];
     for i in 0..q {
-        let pair = pair_of(work, q, heights, i, s, voted);
+        let pair = pair_of(table, work, q, heights, i, s, voted);
         pairs[i] = pair;
     }
     pairs

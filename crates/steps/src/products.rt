@@ -6,7 +6,8 @@ ghost use Prim.Native.Nat.{_+_, _*_, _<_, _≤_};
 ghost use lib.ListN.{length};
 ghost use mathlib.Core.Bool.{false};
 ghost use Rattle.algebra.specs.Weights.{gap};
-ghost use Rattle.symbols.specs.Rule.{symbols, Sym, number, symbol};
+ghost use Rattle.symbols.specs.Rule.{symbols, Sym, number};
+ghost use Rattle.symbols.specs.Tables.{HasProducts};
 ghost use Rattle.published.specs.Start.{Polynomials};
 ghost use Rattle.published.specs.Steps.{substituted};
 ghost use Rattle.steps.specs.Area.{Area, Apart, cellsOf, Turns, Becomes, Multiplies, sourceRow, sourceShift, productRowAdded, productAdded, replacedZ};
@@ -111,14 +112,21 @@ pub fn add_product(
     }
 }
 
-// z becomes z + m·x^a·y^b in all 2q polynomials, whose upper rows have no more symbols than `heights` says.
-pub fn replace_z(work: &mut [u8], q: usize, heights: &[usize], a: usize, b: usize, m: u8)
+// z becomes z + ρ·x^a·y^b, where `products` is the table row of ρ, in all 2q polynomials, whose upper rows have no more symbols
+// than `heights` says.
+pub fn replace_z(
+    work: &mut [u8],
+    q: usize,
+    heights: &[usize],
+    a: usize,
+    b: usize,
+    products: [u8; 16],
+)
     requires { ⌜ Area q (length (now work)) ⌝ }
     requires { ⌜ 2 * q ≤ length (now heights) ⌝ }
     requires { ⌜ (b < q) × (a ≤ 1000) ⌝ }
-    ensures { λ _. ⌜ Turns q (now (work .entry)) (now (work .exit)) (replacedZ q (now (heights .entry)) a b (symbol q m) (2 * q)) ⌝ }
+    ensures { λ _. ⌜ ((ρ : Sym q) → Multiplies q products ρ → Turns q (now (work .entry)) (now (work .exit)) (replacedZ q (now (heights .entry)) a b ρ (2 * q))) ⌝ }
 {
-    let products = symbols::products_of(q, m);
     for p in 0..2 * q {
         let upper = Part {
             polynomial: p,
@@ -133,10 +141,10 @@ pub fn replace_z(work: &mut [u8], q: usize, heights: &[usize], a: usize, b: usiz
 }
 
 // z becomes z + vote·(monomial of s) in all polynomials, and nothing changes for a vote of 0.
-pub fn substitute(work: &mut [u8], q: usize, heights: &[usize], s: usize, vote: u8)
+pub fn substitute(table: &[u8], work: &mut [u8], q: usize, heights: &[usize], s: usize, vote: u8)
     requires { ⌜ Area q (length (now work)) ⌝ }
     requires { ⌜ 2 * q ≤ length (now heights) ⌝ }
-    requires { ⌜ (s ≤ 1000) × ((vote ≡ 0 → ⊥) → gap q s ≡ false) ⌝ }
+    requires { ⌜ (s ≤ 1000) × ((vote ≡ 0 → ⊥) → gap q s ≡ false) × HasProducts q (now table) ⌝ }
     ensures { λ _. ⌜ ((S : Polynomials (symbols q) q) (ω : Sym q) → vote ≡ number q ω → Below q (now (heights .entry)) (cellsOf q S) → Becomes q (now (work .entry)) (now (work .exit)) S (substituted (symbols q) q s ω S)) ⌝ }
 {
     if vote == 0 {
@@ -146,5 +154,6 @@ pub fn substitute(work: &mut [u8], q: usize, heights: &[usize], s: usize, vote: 
     let Monomial::Powers { x, y } = monomial else {
         return;
     };
-    replace_z(work, q, heights, x, y, vote);
+    let products = symbols::products_in(table, q, vote);
+    replace_z(work, q, heights, x, y, products);
 }

@@ -11,6 +11,7 @@ ghost use mathlib.Core.List.{List, _++_};
 ghost use Prim.Native.Nat.{ℕ, _+_, _-_, _<_, _≤_};
 ghost use lib.ListN.{length, drop};
 ghost use Rattle.symbols.specs.Rule.{Known, symbols};
+ghost use Rattle.symbols.specs.Tables.{HasProducts};
 ghost use Rattle.curve.specs.Codes.{pointCount, dimension};
 ghost use Rattle.published.specs.Start.{stepCount};
 ghost use Rattle.published.specs.Picture.{areaSize};
@@ -35,8 +36,8 @@ fn note_vote(q: usize, u: usize, done: usize, left: usize, vote: u8, votes: &mut
 }
 
 // Does the first steps, from the start on.
-fn take_steps(q: usize, u: usize, steps: usize, work: &mut [u8], votes: &mut [u8])
-    requires { ⌜ Known q × (u < pointCount q) × (steps ≤ stepCount q) ⌝ }
+fn take_steps(table: &[u8], q: usize, u: usize, steps: usize, work: &mut [u8], votes: &mut [u8])
+    requires { ⌜ Known q × (u < pointCount q) × (steps ≤ stepCount q) × HasProducts q (now table) ⌝ }
     requires { ⌜ (areaSize q ≤ length (now work)) × (dimension q u ≤ length (now votes)) ⌝ }
     ensures { λ _. ⌜ ((row rest rest′ : List ℕ) → now (work .entry) ≡ pictureAfter q u row 0 ++ rest → now (votes .entry) ≡ votesAfter q u row 0 ++ rest′
         → (now (work .exit) ≡ pictureAfter q u row steps ++ rest) × (now (votes .exit) ≡ votesAfter q u row steps ++ rest′)) ⌝ }
@@ -44,7 +45,7 @@ fn take_steps(q: usize, u: usize, steps: usize, work: &mut [u8], votes: &mut [u8
     let mut left = curve::dimension(q, u);
     let mut heights = heights::start_heights(q);
     for done in 0..steps {
-        let vote = step::take_step(q, u, done, work, &mut heights);
+        let vote = step::take_step(table, q, u, done, work, &mut heights);
         left = note_vote(q, u, done, left, vote, votes);
     }
 }
@@ -55,9 +56,10 @@ pub fn advance(q: usize, u: usize, steps: usize, row: &[u8], work: &mut [u8], vo
     ensures { λ _. ⌜ now (work .exit) ≡ pictureAfter q u (now (row .entry)) steps ++ drop (areaSize q) (now (work .entry)) ⌝ }
     ensures { λ _. ⌜ now (votes .exit) ≡ votesAfter q u (now (row .entry)) steps ++ drop (dimension q u) (now (votes .entry)) ⌝ }
 {
-    start::begin(q, row, work);
+    let table = symbols::table_of(q);
+    start::begin(&table, q, row, work);
     start::clear(votes, curve::dimension(q, u));
-    take_steps(q, u, steps, work, votes);
+    take_steps(&table, q, u, steps, work, votes);
 }
 
 // Stopping after any number of steps, for all inputs: refused with 1 to 7, or done with the picture and the votes, which then

@@ -8,6 +8,7 @@ ghost use mathlib.Core.List.{List, _++_, map};
 ghost use Prim.Native.Nat.{ℕ, _+_, _*_, _<_, _≤_};
 ghost use lib.ListN.{length, drop, replicate};
 ghost use Rattle.symbols.specs.Rule.{Known, Sym, symbols, symbol, anyBeyond};
+ghost use Rattle.symbols.specs.Tables.{productRow, HasProducts};
 ghost use Rattle.curve.specs.Codes.{pointCount};
 ghost use Rattle.published.specs.Start.{start};
 ghost use Rattle.published.specs.Picture.{areaSize, picture};
@@ -36,13 +37,13 @@ fn put_firsts(work: &mut [u8], q: usize)
     work[vanishing + q * q] = 1;
 }
 
-// Adds `factor` times 1 + Σ x^i·a^(n-1-i) to a sum of powers of x below n. Going down, the powers of a rise.
-fn add_part(sums: [u8; 16], q: usize, n: usize, a: u8, factor: u8) -> [u8; 16]
+// Adds `factor` times 1 + Σ x^i·a^(n-1-i) to a sum of powers of x below n, by the products of a. Going down, the powers of a
+// rise.
+fn add_part(sums: [u8; 16], q: usize, n: usize, products: [u8; 16], factor: u8) -> [u8; 16]
     requires { ⌜ Known q ⌝ }
     requires { ⌜ (0 < n) × (n ≤ 16) × (factor < q * q) ⌝ }
-    ensures { λ r. ⌜ ((F : ℕ → Sym q) → Holds q sums n F → Holds q r n (plusPart q n (symbol q a) (symbol q factor) F)) ⌝ }
+    ensures { λ r. ⌜ ((a : ℕ) (F : ℕ → Sym q) → products ≡ productRow q a → Holds q sums n F → Holds q r n (plusPart q n (symbol q a) (symbol q factor) F)) ⌝ }
 {
-    let products = symbols::products_of(q, a);
     let mut result = sums;
     let mut term = factor;
     let mut i = n;
@@ -56,16 +57,17 @@ fn add_part(sums: [u8; 16], q: usize, n: usize, a: u8, factor: u8) -> [u8; 16]
 }
 
 // The received symbols above the x with number a, times the parts in y of their points.
-fn column_sums(q: usize, row: &[u8], a: usize) -> [u8; 16]
+fn column_sums(table: &[u8], q: usize, row: &[u8], a: usize) -> [u8; 16]
     requires { ⌜ Known q ⌝ }
-    requires { ⌜ (length (now row) ≡ pointCount q) × (anyBeyond q (now row) ≡ false) ⌝ }
+    requires { ⌜ (length (now row) ≡ pointCount q) × (anyBeyond q (now row) ≡ false) × HasProducts q (now table) ⌝ }
     requires { ⌜ a < q * q ⌝ }
     ensures { λ r. ⌜ Holds q r q (columnSum q (now (row .entry)) a q) ⌝ }
 {
-    let ordinates = curve::ordinates(q, a as u8);
+    let ordinates = curve::ordinates(q, symbols::products_in(table, q, a as u8));
     let mut sums = [0u8; 16];
     for b in 0..q {
-        let more = add_part(sums, q, q, ordinates[b], row[a * q + b]);
+        let products = symbols::products_in(table, q, ordinates[b]);
+        let more = add_part(sums, q, q, products, row[a * q + b]);
         sums = more;
     }
     sums
@@ -83,29 +85,30 @@ fn add_values(work: &mut [u8], to: usize, n: usize, values: [u8; 16], products: 
 }
 
 // Adds to the lower part of f_0 what the points above the x with number a give to h.
-fn add_column(work: &mut [u8], q: usize, row: &[u8], a: usize)
+fn add_column(table: &[u8], work: &mut [u8], q: usize, row: &[u8], a: usize)
     requires { ⌜ Area q (length (now work)) ⌝ }
-    requires { ⌜ (length (now row) ≡ pointCount q) × (anyBeyond q (now row) ≡ false) ⌝ }
+    requires { ⌜ (length (now row) ≡ pointCount q) × (anyBeyond q (now row) ≡ false) × HasProducts q (now table) ⌝ }
     requires { ⌜ a < q * q ⌝ }
     ensures { λ _. ⌜ Turns q (now (work .entry)) (now (work .exit)) (rowsPlus q q q q (columnOf q (now (row .entry)) a)) ⌝ }
 {
-    let sums = column_sums(q, row, a);
-    let values = add_part([0u8; 16], q, q * q, a as u8, 1);
+    let sums = column_sums(table, q, row, a);
+    let powers = symbols::products_in(table, q, a as u8);
+    let values = add_part([0u8; 16], q, q * q, powers, 1);
     for j in 0..q {
-        let products = symbols::products_of(q, sums[j]);
+        let products = symbols::products_in(table, q, sums[j]);
         let to = area::row_place(q, q, q + j);
         add_values(work, to, q * q, values, products);
     }
 }
 
 // Adds h to the lower part of f_0; minus equals plus.
-fn add_h(work: &mut [u8], q: usize, row: &[u8])
+fn add_h(table: &[u8], work: &mut [u8], q: usize, row: &[u8])
     requires { ⌜ Area q (length (now work)) ⌝ }
-    requires { ⌜ (length (now row) ≡ pointCount q) × (anyBeyond q (now row) ≡ false) ⌝ }
+    requires { ⌜ (length (now row) ≡ pointCount q) × (anyBeyond q (now row) ≡ false) × HasProducts q (now table) ⌝ }
     ensures { λ _. ⌜ Turns q (now (work .entry)) (now (work .exit)) (rowsPlus q q q q (columnsOf q (now (row .entry)) (q * q))) ⌝ }
 {
     for a in 0..q * q {
-        add_column(work, q, row, a);
+        add_column(table, work, q, row, a);
     }
 }
 
@@ -149,14 +152,14 @@ fn add_all_multiples(work: &mut [u8], q: usize)
 }
 
 // Puts the polynomials before the first step on a received row into the work area.
-pub fn begin(q: usize, row: &[u8], work: &mut [u8])
+pub fn begin(table: &[u8], q: usize, row: &[u8], work: &mut [u8])
     requires { ⌜ Known q ⌝ }
-    requires { ⌜ (length (now row) ≡ pointCount q) × (anyBeyond q (now row) ≡ false) ⌝ }
+    requires { ⌜ (length (now row) ≡ pointCount q) × (anyBeyond q (now row) ≡ false) × HasProducts q (now table) ⌝ }
     requires { ⌜ areaSize q ≤ length (now work) ⌝ }
     ensures { λ _. ⌜ now (work .exit) ≡ picture (symbols q) q (start (symbols q) q (map (symbol q) (now (row .entry)))) ++ drop (areaSize q) (now (work .entry)) ⌝ }
 {
     clear(work, area::area_size(q));
     put_firsts(work, q);
-    add_h(work, q, row);
+    add_h(table, work, q, row);
     add_all_multiples(work, q);
 }

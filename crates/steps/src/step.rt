@@ -8,6 +8,7 @@ ghost use mathlib.Core.List.{List, _++_};
 ghost use Prim.Native.Nat.{ℕ, _+_, _<_, _≤_};
 ghost use lib.ListN.{length};
 ghost use Rattle.symbols.specs.Rule.{Known};
+ghost use Rattle.symbols.specs.Tables.{HasProducts};
 ghost use Rattle.published.specs.Start.{startWeight, stepCount};
 ghost use Rattle.published.specs.Picture.{areaSize};
 ghost use Rattle.steps.specs.Stop.{pictureAfter};
@@ -31,8 +32,15 @@ pub fn step_count(q: usize) -> usize
 }
 
 // Does the step after `done` steps and gives its vote, 0 where there is none.
-pub fn take_step(q: usize, u: usize, done: usize, work: &mut [u8], heights: &mut [usize]) -> u8
-    requires { ⌜ Known q × (areaSize q ≤ length (now work)) × (done < stepCount q) ⌝ }
+pub fn take_step(
+    table: &[u8],
+    q: usize,
+    u: usize,
+    done: usize,
+    work: &mut [u8],
+    heights: &mut [usize],
+) -> u8
+    requires { ⌜ Known q × (areaSize q ≤ length (now work)) × (done < stepCount q) × HasProducts q (now table) ⌝ }
     requires { ⌜ Heights q (now heights) ⌝ }
     ensures { λ _. ⌜ Heights q (now (heights .exit)) ⌝ }
     ensures { λ vote. ⌜ ((row : List ℕ) (rest : List ℕ) → now (work .entry) ≡ pictureAfter q u row done ++ rest → BelowAfter q u row done (now (heights .entry))
@@ -40,9 +48,9 @@ pub fn take_step(q: usize, u: usize, done: usize, work: &mut [u8], heights: &mut
 {
     let s = start_weight(q) - done;
     let voted = votes::is_voted(q, u, s);
-    let pairs = pairs::pairs_of(&work[..], q, &heights[..], s, voted);
+    let pairs = pairs::pairs_of(table, &work[..], q, &heights[..], s, voted);
     let vote = votes::vote_of(pairs, q, voted);
-    products::substitute(work, q, &heights[..], s, vote);
-    update::change_all(work, q, heights, pairs, vote);
+    products::substitute(table, work, q, &heights[..], s, vote);
+    update::change_all(table, work, q, heights, pairs, vote);
     vote
 }

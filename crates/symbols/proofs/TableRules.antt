@@ -61,6 +61,9 @@ row-of-list q a table has =
     put-same (replicate 16 0) 0 (size q) (after table (a % size q * size q)) (productNumber q a)
     (λ b h. has .at (a % size q) b (mod-lt a (some q)) h ∙ ap (λ y. productNumber q (a % size q) y) (sym (mod-eq-of-lt h)) ∙ product-of-remainders q a b)
 
+pub product-of-list : (q a b : ℕ) (table : List ℕ) → HasProducts q table → getD table (a % size q * size q + b % size q) 0 ≡ productNumber q a b
+product-of-list q a b table has = has .at (a % size q) (b % size q) (mod-lt a (some q)) (mod-lt b (some q)) ∙ product-of-remainders q a b
+
 -- the row of a holds at each place below q² the product of a by that place's symbol
 pub row-at : (q a b : ℕ) → size q ≤ 16 → b < size q
     → getD (productRow q a) b 0 ≡ number q (symbols q ._⊗_ (symbol q a) (symbol q b))

@@ -127,6 +127,18 @@ pub fn products_in(table: &[u8], q: usize, a: u8) -> [u8; 16]
     }
 }
 
+// The product of two symbols, from such a list.
+pub fn product_in(table: &[u8], q: usize, a: u8, b: u8) -> u8
+    requires { ⌜ Known q × HasProducts q (now table) ⌝ }
+    ensures { λ r. ⌜ r ≡ number q (symbols q ._⊗_ (symbol q a) (symbol q b)) ⌝ }
+{
+    if q == 4 {
+        table[(a % 16) as usize * 16 + (b % 16) as usize]
+    } else {
+        table[(a % 4) as usize * 4 + (b % 4) as usize]
+    }
+}
+
 // The n-th power, by squaring; 0 to the power 0 is 1.
 pub fn power(q: usize, a: u8, n: usize) -> u8
     requires { ⌜ Known q ⌝ }

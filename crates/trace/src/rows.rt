@@ -47,9 +47,10 @@ fn put_lines(out: &mut [u8], q: usize, u: usize, row: &[u8], work: &mut [u8]) ->
 {
     let count = step_count(q);
     let mut next = put_code(out, 0, q, u);
+    let table = symbols::table_of(q);
     let mut heights = start_heights(q);
     for t in 0..count {
-        let vote = take_step(q, u, t, work, &mut heights);
+        let vote = take_step(&table, q, u, t, work, &mut heights);
         next = put_step_line(out, next, q, u, count - 1 - t, vote, work);
     }
     put_last(out, next, q, u, row, work)

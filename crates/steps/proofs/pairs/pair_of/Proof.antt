@@ -22,7 +22,7 @@ use Rattle.steps.proofs.pairs.pair_of.Tie as tie
 
 -- the sum that is divided
 abbrev total : tie.After-leading-below → ℕ
-total c = let s = c .before .before .before .before in s .args .q * c .leading-below .result .degree + (s .args .q + 1) * s .args .i + s .args .s
+total c = let s = c .before .before .before .before .before in s .args .q * c .leading-below .result .degree + (s .args .q + 1) * s .args .i + s .args .s
 
 -- how large its parts are
 record Small (q a i s : ℕ) : Type 0 where
@@ -30,22 +30,22 @@ record Small (q a i s : ℕ) : Type 0 where
   second : (q + 1) * i ≤ 5 * 4
   all : q * a + (q + 1) * i + s ≤ 1000
 
-small : (c : tie.After-leading-below) → let s = c .before .before .before .before in Small (s .args .q) (c .leading-below .result .degree) (s .args .i) (s .args .s)
+small : (c : tie.After-leading-below) → let s = c .before .before .before .before .before in Small (s .args .q) (c .leading-below .result .degree) (s .args .i) (s .args .s)
 small c =
-    let s = c .before .before .before .before in
+    let s = c .before .before .before .before .before in
     let first = mul-le-mul {n₁ = s .args .q} {m₁ = c .leading-below .result .degree} {n₂ = 4} {m₂ = 23} (omega (arith, s .pre .0 .few)) (omega (arith, s .pre .0 .narrow, c .leading-below .ensures .0)) in
     let second = mul-le-mul {n₁ = s .args .q + 1} {m₁ = s .args .i} {n₂ = 5} {m₂ = 4} (omega (arith, s .pre .0 .few)) (omega (arith, s .pre .0 .few)) in
     record { first = first; second = second; all = omega arith }
 
-parts : (c : tie.After-leading-below) → Divided (c .before .before .before .before .args .q) (total c)
-parts c = divided _ _ (c .before .before .before .before .pre .0 .known) (small c .all)
+parts : (c : tie.After-leading-below) → Divided (c .before .before .before .before .before .args .q) (total c)
+parts c = divided _ _ (c .before .before .before .before .before .pre .0 .known) (small c .all)
 
 -- the height is that of the upper row that is read
-short : (c : tie.After-leading-below) → let s = c .before .before .before .before in
+short : (c : tie.After-leading-below) → let s = c .before .before .before .before .before in
     (S : Polynomials (symbols (s .args .q)) (s .args .q)) → Below (s .args .q) (now (s .args .heights)) (cellsOf (s .args .q) S)
     → Short (s .args .q) (getD (now (s .args .heights)) (s .args .q + s .args .i) 0) (cellsOf (s .args .q) S (s .args .q + s .args .i) (s .args .i))
 short c S below =
-    let s = c .before .before .before .before in
+    let s = c .before .before .before .before .before in
     record { zeros = λ n h l. below .above _ _ n (omega (arith, s .pre .1 .1 .0)) (s .pre .1 .1 .0) l h }
 
 -- k is the definition's, and small
@@ -54,13 +54,13 @@ module _ (c : tie.After-leading-of) where
   k = c .before .quotient-of .result
 
   abbrev kIs : ℤ
-  kIs = kOf (c .before .before .before .before .before .before .args .q) (total (c .before .before))
+  kIs = kOf (c .before .before .before .before .before .before .before .args .q) (total (c .before .before))
 
   low : natAbs k ≤ 1000
   low = rw (c .before .quotient-of .ensures) (k-small _ _ (parts (c .before .before)))
 
   degree : c .leading-of .result .degree ≤ 1000
-  degree = omega (arith, c .before .before .before .before .before .before .pre .0 .narrow, c .leading-of .ensures .0)
+  degree = omega (arith, c .before .before .before .before .before .before .before .pre .0 .narrow, c .leading-of .ensures .0)
 
   c-is : toZ w64 (ofZ w64 (toZ w64 (c .leading-of .result .degree) -ℤ toZ w64 (ofZ w64 k))) ≡ pos (c .leading-of .result .degree) -ℤ kIs
   c-is = less-value _ k degree low ∙ ap (λ (z : ℤ). pos (c .leading-of .result .degree) -ℤ z) (c .before .quotient-of .ensures)
@@ -79,7 +79,7 @@ mul-height c = search needs
 
 shared-slice-read-height : tie.Need-shared-slice-read-height
 shared-slice-read-height c =
-    let s = c .before .before .before in
+    let s = c .before .before .before .before in
     omega (arith, s .pre .1 .0 .enough, s .pre .1 .1 .0)
 
 add-leading-below : tie.Need-add-leading-below
@@ -87,7 +87,7 @@ add-leading-below c = search needs
 
 leading-below-requires : tie.Need-leading-below-requires
 leading-below-requires c κs =
-    let s = c .before .before .before in
+    let s = c .before .before .before .before in
     (s .pre .0, (omega (arith, s .pre .1 .1 .0), omega (arith, s .pre .1 .1 .0), s .pre .1 .0 .low _ (omega (arith, s .pre .1 .1 .0))))
 
 mul-total : tie.Need-mul-total
@@ -109,13 +109,13 @@ rem-partner : tie.Need-rem-partner
 rem-partner c = search needs
 
 quotient-of-requires : tie.Need-quotient-of-requires
-quotient-of-requires c κs = (c .before .before .before .before .pre .0 .known, small c .all)
+quotient-of-requires c κs = (c .before .before .before .before .before .pre .0 .known, small c .all)
 
 add-leading-of : tie.Need-add-leading-of
 add-leading-of c = omega (arith, parts (c .before))
 
 leading-of-requires : tie.Need-leading-of-requires
-leading-of-requires c κs = (c .before .before .before .before .before .pre .0, omega (arith, parts (c .before)))
+leading-of-requires c κs = (c .before .before .before .before .before .before .pre .0, omega (arith, parts (c .before)))
 
 cast-c : tie.Need-cast-c
 cast-c c = search needs
@@ -126,7 +126,7 @@ sub-c c = less-fits _ (k c) (degree c) (low c)
 returns : tie.Need-returns
 returns c =
     let d = c .before in
-    let s = c .before .before .before .before .before .before .before in (
+    let s = c .before .before .before .before .before .before .before .before in (
       record { partner = parts (d .before .before) .part; c = c-small d },
       λ S u narrow below z v.
           pair-negative _ (s .pre .0 .known) S u _ _ (c .before .before .before .leading-below .result) (c .before .leading-of .result) (c .before .before .before .leading-below .ensures .1 (cellsOf _ S) z (short (c .before .before .before) S below)) (c .before .leading-of .ensures .1 (cellsOf _ S) z)
@@ -145,18 +145,18 @@ cast-coefficient-at c =
     rw (k-is d) (cast-fits (kIs d) (omega (arith, k-small _ _ (parts (d .before .before)))) (negative-no (kIs d) (rw (k-is d) at (c .if1 .left)) .1))
 
 coefficient-at-requires : tie.Need-coefficient-at-requires
-coefficient-at-requires c κs = (c .before .before .before .before .before .before .before .pre .0, omega (arith, parts (c .before .before .before)))
+coefficient-at-requires c κs = (c .before .before .before .before .before .before .before .before .pre .0, omega (arith, parts (c .before .before .before)))
 
 inverse-requires : tie.Need-inverse-requires
 inverse-requires c κs = search needs
 
-product-requires : tie.Need-product-requires
-product-requires c κs = search needs
+product-in-requires : tie.Need-product-in-requires
+product-in-requires c κs = let s = c .before .before .before .before .before .before .before .before .before .before .before in (s .pre .0 .known, s .pre .1 .1 .2)
 
 returns-2 : tie.Need-returns-2
 returns-2 c =
     let d = c .before .before .before .before .before in
-    let s = c .before .before .before .before .before .before .before .before .before .before .before in
+    let s = c .before .before .before .before .before .before .before .before .before .before .before .before in
     let n = negative-no (kIs d) (rw (k-is d) at (c .before .before .before .before .if1 .left)) in (
       record { partner = parts (d .before .before) .part; c = c-small d },
       λ S u narrow below z v.
@@ -164,13 +164,13 @@ returns-2 c =
           let read = rw (k-is d, n .1) at (c .before .before .before .coefficient-at .ensures (cellsOf _ S) narrow z) in
           pair-voted _ (s .pre .0 .known) S u _ _ (c .before .before .before .before .before .before .before .leading-below .result) (c .before .before .before .before .before .leading-of .result) lead (c .before .before .before .before .before .leading-of .ensures .1 (cellsOf _ S) z)
           _ refl (c-is d) refl (n .0) (v ∙ c .before .before .if2 .taken)
-          (quotient-is _ (s .pre .0 .known) _ _ _ _ _ _ read (lead-f _ S _ _ lead) (c .before .inverse .ensures) (c .product .ensures)) refl,
+          (quotient-is _ (s .pre .0 .known) _ _ _ _ _ _ read (lead-f _ S _ _ lead) (c .before .inverse .ensures) (c .product-in .ensures)) refl,
     )
 
 returns-3 : tie.Need-returns-3
 returns-3 c =
     let d = c .before .before .before in
-    let s = c .before .before .before .before .before .before .before .before .before in
+    let s = c .before .before .before .before .before .before .before .before .before .before in
     let n = negative-no (kIs d) (rw (k-is d) at (c .before .before .if1 .left)) in (
       record { partner = parts (d .before .before) .part; c = c-small d },
       λ S u narrow below z v.
@@ -205,6 +205,6 @@ pair-of-spec =
     cast-coefficient-at
     coefficient-at-requires
     inverse-requires
-    product-requires
+    product-in-requires
     returns-2
     returns-3)

@@ -16,20 +16,20 @@ use Rattle.steps.proofs.pairs.pairs_of.Statement.{statement}
 use Rattle.steps.proofs.pairs.pairs_of.Tie as tie
 
 abbrev Inv-loop : tie.InvT-loop
-Inv-loop work q heights s voted pairs₀ i₀ pairs i =
+Inv-loop table work q heights s voted pairs₀ i₀ pairs i =
     (i ≤ q) × (length pairs ≡ 4) × ((j : ℕ) → j < i → Held q (pairAt pairs j))
     × ((S : Polynomials (symbols q) q) (u : ℕ) → Narrow q (cellsOf q S) → Below q heights (cellsOf q S) → Starts q work (cellsOf q S) → isVoted q u s ≡ voted
     → (j : ℕ) → j < i → NumbersOf q (pairAt pairs j) (pairing (symbols q) q u s S j))
 
 abbrev μ-loop : tie.MeasureT-loop
-μ-loop work q heights s voted pairs₀ i₀ pairs i = q - i
+μ-loop table work q heights s voted pairs₀ i₀ pairs i = q - i
 
 loop-holds : tie.Need-loop-holds Inv-loop μ-loop
 loop-holds c =
     (search needs, search needs, λ j h. absurd (omega arith), λ S u n b z v j h. absurd (omega arith))
 
 pair-of-requires : tie.Need-pair-of-requires Inv-loop μ-loop
-pair-of-requires c κs = (c .before .before .before .before .pre .0, (c .before .before .before .before .pre .1 .0, search needs))
+pair-of-requires c κs = (c .before .before .before .before .before .pre .0, (c .before .before .before .before .before .pre .1 .0, search needs))
 
 mul-pairs : tie.Need-mul-pairs Inv-loop μ-loop
 mul-pairs c = search needs
@@ -45,7 +45,7 @@ loop-less c = search needs
 
 loop-again : tie.Need-loop-again Inv-loop μ-loop
 loop-again c =
-    let s = c .before .before .before .before .before in
+    let s = c .before .before .before .before .before .before in
     let q = s .args .q in
     let i = c .before .before .loop .i in
     let pairs = c .before .before .loop .pairs in

@@ -4,30 +4,28 @@ use mathlib.Core.Path.{_≡_}
 use Prim.Native.Nat.{_-_, _*_, _≤_}
 use native.Mathlib.Omega.{arith}
 use lib.ListN.{length}
-use Rattle.symbols.specs.Rule.{symbol}
-use Rattle.steps.specs.Area.{Turns, replacedZ}
+use Rattle.symbols.specs.Rule.{Sym}
+use Rattle.steps.specs.Area.{Turns, Multiplies, replacedZ}
 use Rattle.steps.proofs.Cells.{still, turns-none, turns-same, turns-both}
-use Rattle.steps.proofs.RowLaws.{multiplies}
 use Rattle.steps.proofs.ProductCells.{parts-apart, replaced-none, replaced-more}
 use borrow.Author.Needs.{needs}
 use Rattle.steps.proofs.products.replace_z.Statement.{statement}
 use Rattle.steps.proofs.products.replace_z.Tie as tie
 
 abbrev Inv-loop : tie.InvT-loop
-Inv-loop work₀ q heights a b m products p₀ p-end work p = (p ≤ 2 * q) × (length work ≡ length work₀) × Turns q work₀ work (replacedZ q heights a b (symbol q m) p)
+Inv-loop work₀ q heights a b products p₀ p-end work p =
+    (p ≤ 2 * q) × (length work ≡ length work₀)
+    × ((ρ : Sym q) → Multiplies q products ρ → Turns q work₀ work (replacedZ q heights a b ρ p))
 
 abbrev μ-loop : tie.MeasureT-loop
-μ-loop work₀ q heights a b m products p₀ p-end work p = 2 * q - p
-
-products-of-requires : tie.Need-products-of-requires Inv-loop μ-loop
-products-of-requires c κs = search needs
+μ-loop work₀ q heights a b products p₀ p-end work p = 2 * q - p
 
 mul-p-end : tie.Need-mul-p-end Inv-loop μ-loop
 mul-p-end c = search needs
 
 loop-holds : tie.Need-loop-holds Inv-loop μ-loop
 loop-holds c =
-    (search needs, search needs, turns-same _ (λ S p r i hp hr hi. replaced-none _ (c .before .before .before .pre .0 .known) _ _ _ _ S p r i) (turns-none _))
+    (search needs, search needs, λ ρ m. turns-same _ (λ S p r i hp hr hi. replaced-none _ (c .before .before .pre .0 .known) _ _ _ ρ S p r i) (turns-none _))
 
 mul-add-product : tie.Need-mul-add-product Inv-loop μ-loop
 mul-add-product c = search needs
@@ -37,7 +35,7 @@ shared-slice-read-add-product c = search needs
 
 add-product-requires : tie.Need-add-product-requires Inv-loop μ-loop
 add-product-requires c κs =
-    let s = c .before .before .before .before .before .before .before in
+    let s = c .before .before .before .before .before .before in
     (still (s .pre .0) (c .before .before .before .loop .inv .1), (parts-apart _ (s .pre .0 .known) _ (c .before .before .loop-test .taken), s .pre .1 .1))
 
 add-p : tie.Need-add-p Inv-loop μ-loop
@@ -48,11 +46,11 @@ loop-less c = search needs
 
 loop-again : tie.Need-loop-again Inv-loop μ-loop
 loop-again c =
-    let s = c .before .before .before .before .before .before .before .before .before .before in (
+    let s = c .before .before .before .before .before .before .before .before .before in (
       search needs,
       search needs,
-      turns-same _ (λ S p r i hp hr hi. replaced-more _ (s .pre .0 .known) _ _ _ _ _ S p r i)
-          (turns-both _ (c .before .before .before .before .before .before .loop .inv .2) (c .before .before .add-product .ensures (symbol _ (s .args .m)) (rw (c .before .before .before .before .before .before .before .products-of .ensures) (multiplies _ _ (s .pre .0 .known))))),
+      λ ρ m. turns-same _ (λ S p r i hp hr hi. replaced-more _ (s .pre .0 .known) _ _ _ ρ _ S p r i)
+          (turns-both _ (c .before .before .before .before .before .before .loop .inv .2 ρ m) (c .before .before .add-product .ensures ρ m)),
     )
 
 same-length : tie.Need-same-length Inv-loop μ-loop
@@ -60,7 +58,7 @@ same-length c = search needs
 
 returns : tie.Need-returns Inv-loop μ-loop
 returns c =
-    let p : c .before .loop .p ≡ 2 * c .before .before .before .before .before .args .q = omega arith in
+    let p : c .before .loop .p ≡ 2 * c .before .before .before .before .args .q = omega arith in
     rw p at (c .before .loop .inv .2)
 
 pub replace-z-spec : {M : Type 1} → statement M
@@ -69,7 +67,6 @@ replace-z-spec =
     (tie.spec
     Inv-loop
     μ-loop
-    products-of-requires
     mul-p-end
     loop-holds
     mul-add-product

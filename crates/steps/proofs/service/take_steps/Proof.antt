@@ -19,13 +19,13 @@ use Rattle.steps.proofs.service.take_steps.Statement.{statement}
 use Rattle.steps.proofs.service.take_steps.Tie as tie
 
 abbrev Inv-loop : tie.InvT-loop
-Inv-loop q u steps work₀ votes₀ left₀ heights₀ done₀ work votes left heights done =
+Inv-loop table q u steps work₀ votes₀ left₀ heights₀ done₀ work votes left heights done =
     (done ≤ steps) × (length work ≡ length work₀) × (length votes ≡ length votes₀) × (left ≡ votesBelow q u (stepCount q - done)) × Heights q heights × (length heights ≡ 8)
     × ((row rest rest′ : List ℕ) → work₀ ≡ pictureAfter q u row 0 ++ rest → votes₀ ≡ votesAfter q u row 0 ++ rest′
     → (work ≡ pictureAfter q u row done ++ rest) × (votes ≡ votesAfter q u row done ++ rest′) × BelowAfter q u row done heights)
 
 abbrev μ-loop : tie.MeasureT-loop
-μ-loop q u steps work₀ votes₀ left₀ heights₀ done₀ work votes left heights done = steps - done
+μ-loop table q u steps work₀ votes₀ left₀ heights₀ done₀ work votes left heights done = steps - done
 
 dimension-requires : tie.Need-dimension-requires Inv-loop μ-loop
 dimension-requires c κs = search needs
@@ -35,7 +35,7 @@ start-heights-requires c κs = search needs
 
 loop-holds : tie.Need-loop-holds Inv-loop μ-loop
 loop-holds c =
-    let start = c .before .before .before .before in
+    let start = c .before .before .before .before .before in
     let known = start .pre .0 .0 in (
       search needs,
       refl,
@@ -51,13 +51,13 @@ slice-aggregate-take-step c = sym (c .before .before .before .loop .inv .5)
 
 take-step-requires : tie.Need-take-step-requires Inv-loop μ-loop
 take-step-requires c κs =
-    let start = c .before .before .before .before .before .before .before .before in
+    let start = c .before .before .before .before .before .before .before .before .before in
     let turn = c .before .before .before .loop in
-    ((start .pre .0 .0, omega (arith, start .pre .1 .0, turn .inv .1), omega (arith, start .pre .0 .2, c .before .before .loop-test .taken)), turn .inv .4)
+    ((start .pre .0 .0, omega (arith, start .pre .1 .0, turn .inv .1), omega (arith, start .pre .0 .2, c .before .before .loop-test .taken), start .pre .0 .3), turn .inv .4)
 
 note-vote-requires : tie.Need-note-vote-requires Inv-loop μ-loop
 note-vote-requires c κs =
-    let start = c .before .before .before .before .before .before .before .before .before .before .before .before .before in
+    let start = c .before .before .before .before .before .before .before .before .before .before .before .before .before .before in
     let turn = c .before .before .before .before .before .before .before .before .loop in
     (start .pre .0 .0, omega (arith, start .pre .0 .2, c .before .before .before .before .before .before .before .loop-test .taken), turn .inv .3, omega (arith, turn .inv .3, turn .inv .2, start .pre .1 .1, below-le (start .args .q) (start .args .u) (stepCount (start .args .q) - turn .done)))
 
@@ -69,7 +69,7 @@ loop-less c = search needs
 
 loop-again : tie.Need-loop-again Inv-loop μ-loop
 loop-again c =
-    let start = c .before .before .before .before .before .before .before .before .before .before .before .before .before .before .before .before in
+    let start = c .before .before .before .before .before .before .before .before .before .before .before .before .before .before .before .before .before in
     let turn = c .before .before .before .before .before .before .before .before .before .before .before .loop in
     let few : turn .done < stepCount (start .args .q) = omega (arith, start .pre .0 .2, c .before .before .before .before .before .before .before .before .before .before .loop-test .taken) in (
       search needs,
@@ -92,7 +92,7 @@ same-length-2 c = search needs
 
 returns : tie.Need-returns Inv-loop μ-loop
 returns c =
-    let e : c .before .loop .done ≡ c .before .before .before .before .before .before .args .steps = omega (arith, c .before .loop .inv .0) in
+    let e : c .before .loop .done ≡ c .before .before .before .before .before .before .before .args .steps = omega (arith, c .before .loop .inv .0) in
     λ row rest rest′ w v. let all = (rw e at (c .before .loop .inv .6)) row rest rest′ w v in (all .0, all .1)
 
 pub take-steps-spec : {M : Type 1} → statement M

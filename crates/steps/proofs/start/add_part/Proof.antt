@@ -6,6 +6,7 @@ use native.Mathlib.Omega.{arith}
 use lib.ListN.{length, length-set}
 use Rattle.algebra.specs.Symbols.{power}
 use Rattle.symbols.specs.Rule.{Sym, symbols, number, symbol}
+use Rattle.symbols.specs.Tables.{productRow}
 use Rattle.symbols.proofs.Bytes.{number-of-below}
 use Rattle.steps.specs.StartArea.{Holds}
 use Rattle.steps.proofs.RowLaws.{multiplies}
@@ -15,19 +16,24 @@ use Rattle.steps.proofs.start.add_part.Statement.{statement}
 use Rattle.steps.proofs.start.add_part.Tie as tie
 
 abbrev Inv-loop : tie.InvT-loop
-Inv-loop q n a factor products result₀ term₀ i₀ result term i =
+Inv-loop q n factor products result₀ term₀ i₀ result term i =
     (i ≤ n) × (length result ≡ 16)
-    × (term ≡ number q (symbols q ._⊗_ (symbol q factor) (power (symbols q) (symbol q a) (n - i))))
-    × ((F : ℕ → Sym q) → Holds q result₀ n F → Added q n (symbol q a) (symbol q factor) F result i)
+    × ((a : ℕ) (F : ℕ → Sym q) → products ≡ productRow q a → Holds q result₀ n F
+    → (term ≡ number q (symbols q ._⊗_ (symbol q factor) (power (symbols q) (symbol q a) (n - i))))
+    × Added q n (symbol q a) (symbol q factor) F result i)
 
 abbrev μ-loop : tie.MeasureT-loop
-μ-loop q n a factor products result₀ term₀ i₀ result term i = i
-
-products-of-requires : tie.Need-products-of-requires Inv-loop μ-loop
-products-of-requires c κs = search needs
+μ-loop q n factor products result₀ term₀ i₀ result term i = i
 
 loop-holds : tie.Need-loop-holds Inv-loop μ-loop
-loop-holds c = (search needs, search needs, term-first _ (c .before .pre .0) _ _ _ (λ i. symbol _ 0) _ (sym (number-of-below _ _ (c .before .pre .0) (c .before .pre .1 .2))), λ F held. added-none _ (c .before .pre .0) _ _ _ F held)
+loop-holds c = (
+  search needs,
+  search needs,
+  λ a F row held. (
+    term-first _ (c .pre .0) _ (symbol _ a) _ F _ (sym (number-of-below _ _ (c .pre .0) (c .pre .1 .2))),
+    added-none _ (c .pre .0) _ _ _ F held,
+  ),
+)
 
 sub-i : tie.Need-sub-i Inv-loop μ-loop
 sub-i c = search needs
@@ -50,12 +56,14 @@ loop-less c = search needs
 loop-again : tie.Need-loop-again Inv-loop μ-loop
 loop-again c =
     let at = c .before .loop in
-    let s = c .before .before .before in
-    let row = c .before .before .products-of .ensures in (
+    let s = c .before .before in (
       search needs,
       simp length-set (at .inv .1),
-      term-more (s .args .q) (s .pre .0) (s .args .n) (symbol _ (s .args .a)) (symbol _ (s .args .factor)) (λ i. symbol _ 0) (c .before .before .products-of .result) (at .i) _ (rw row (multiplies _ _ (s .pre .0))) (omega arith) (at .inv .0) (at .inv .2),
-      λ F held. added-more _ (s .pre .0) _ _ _ F _ _ _ (omega arith) (at .inv .0) (omega arith) (at .inv .2) (at .inv .3 F held),
+      λ a F row held.
+          let old = at .inv .2 a F row held in (
+            term-more (s .args .q) (s .pre .0) (s .args .n) (symbol _ a) (symbol _ (s .args .factor)) F (s .args .t4) (at .i) _ (rw row (multiplies _ _ (s .pre .0))) (omega arith) (at .inv .0) (old .0),
+            added-more _ (s .pre .0) _ _ _ F _ _ _ (omega arith) (at .inv .0) (omega arith) (old .0) (old .1),
+          ),
     )
 
 array-read-result-2 : tie.Need-array-read-result-2 Inv-loop μ-loop
@@ -66,11 +74,11 @@ array-write-result-2 c = search needs
 
 returns : tie.Need-returns Inv-loop μ-loop
 returns c =
-    λ F held.
+    λ a F row held.
     let at = c .before .loop in
-    let s = c .before .before .before in
+    let s = c .before .before in
     let none : at .i ≡ 0 = omega arith in
-    added-all _ (s .pre .0) _ _ _ F _ _ (s .pre .1 .0) (omega arith) (sym (number-of-below _ _ (s .pre .0) (s .pre .1 .2))) (rw none at (at .inv .3 F held))
+    added-all _ (s .pre .0) _ _ _ F _ _ (s .pre .1 .0) (omega arith) (sym (number-of-below _ _ (s .pre .0) (s .pre .1 .2))) (rw none at (at .inv .2 a F row held .1))
 
 pub add-part-spec : {M : Type 1} → statement M
 add-part-spec =
@@ -78,7 +86,6 @@ add-part-spec =
     (tie.spec
     Inv-loop
     μ-loop
-    products-of-requires
     loop-holds
     sub-i
     array-read-result

@@ -17,17 +17,17 @@ clear-requires c κs = search needs
 
 put-firsts-requires : tie.Need-put-firsts-requires
 put-firsts-requires c κs =
-    let s = c .before .before .before .before .before .before .before .before in
+    let s = c .before .before .before .before .before .before .before .before .before in
     still (area-of (s .pre .0) (s .pre .1 .1)) (omega arith)
 
 add-h-requires : tie.Need-add-h-requires
 add-h-requires c κs =
-    let s = c .before .before .before .before .before .before .before .before .before .before .before .before in
+    let s = c .before .before .before .before .before .before .before .before .before .before .before .before .before in
     (still (area-of (s .pre .0) (s .pre .1 .1)) (omega arith), s .pre .1 .0)
 
 add-all-multiples-requires : tie.Need-add-all-multiples-requires
 add-all-multiples-requires c κs =
-    let s = c .before .before .before .before .before .before .before .before .before .before .before .before .before .before .before .before in
+    let s = c .before .before .before .before .before .before .before .before .before .before .before .before .before .before .before .before .before in
     still (area-of (s .pre .0) (s .pre .1 .1)) (omega arith)
 
 same-length : tie.Need-same-length
@@ -35,7 +35,7 @@ same-length c = search needs
 
 returns : tie.Need-returns
 returns c =
-    let s = c .before .before .before .before .before .before .before .before .before .before .before .before .before .before .before .before .before .before .before in
+    let s = c .before .before .before .before .before .before .before .before .before .before .before .before .before .before .before .before .before .before .before .before in
     let known = s .pre .0 in
     let firsts = c .before .before .before .before .before .before .before .before .before .before .put-firsts .ensures _ (blank-cleared _ known _ _ _ (c .before .before .before .before .before .before .before .before .before .before .before .before .before .before .before .area-size .ensures) (c .before .before .before .before .before .before .before .before .before .before .before .before .before .before .clear .ensures)) in
     let first = begun-first _ known (s .args .row .now) _ _ (c .before .before .before .before .before .before .add-h .ensures .shows _ _ firsts) in

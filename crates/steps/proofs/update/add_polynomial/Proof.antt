@@ -4,37 +4,35 @@ use mathlib.Core.Path.{_≡_}
 use Prim.Native.Nat.{_-_, _*_, _≤_}
 use native.Mathlib.Omega.{arith}
 use lib.ListN.{length}
-use Rattle.symbols.specs.Rule.{symbol}
-use Rattle.steps.specs.Area.{Turns, polynomialAdded}
+use Rattle.symbols.specs.Rule.{Sym}
+use Rattle.steps.specs.Area.{Turns, Multiplies, polynomialAdded}
 use Rattle.steps.proofs.Cells.{still, turns-none, turns-same, turns-both}
-use Rattle.steps.proofs.RowLaws.{multiplies}
 use Rattle.steps.proofs.UpdateCells.{added-none, added-more}
 use borrow.Author.Needs.{needs}
 use Rattle.steps.proofs.update.add_polynomial.Statement.{statement}
 use Rattle.steps.proofs.update.add_polynomial.Tie as tie
 
 abbrev Inv-loop : tie.InvT-loop
-Inv-loop work₀ q f g height shift m products r₀ r-end work r = (r ≤ 2 * q) × (length work ≡ length work₀) × Turns q work₀ work (polynomialAdded q f g height shift (symbol q m) r)
+Inv-loop work₀ q f g height shift products r₀ r-end work r =
+    (r ≤ 2 * q) × (length work ≡ length work₀)
+    × ((ρ : Sym q) → Multiplies q products ρ → Turns q work₀ work (polynomialAdded q f g height shift ρ r))
 
 abbrev μ-loop : tie.MeasureT-loop
-μ-loop work₀ q f g height shift m products r₀ r-end work r = 2 * q - r
-
-products-of-requires : tie.Need-products-of-requires Inv-loop μ-loop
-products-of-requires c κs = search needs
+μ-loop work₀ q f g height shift products r₀ r-end work r = 2 * q - r
 
 mul-r-end : tie.Need-mul-r-end Inv-loop μ-loop
 mul-r-end c = search needs
 
 loop-holds : tie.Need-loop-holds Inv-loop μ-loop
 loop-holds c =
-    (search needs, search needs, turns-same _ (λ S p r i hp hr hi. added-none _ (c .before .before .pre .0 .known) _ _ _ (c .before .before .pre .1 .2) _ S _ p r i) (turns-none _))
+    (search needs, search needs, λ ρ m. turns-same _ (λ S p r i hp hr hi. added-none _ (c .before .pre .0 .known) _ _ _ (c .before .pre .1 .2) ρ S _ p r i) (turns-none _))
 
 row-height-requires : tie.Need-row-height-requires Inv-loop μ-loop
 row-height-requires c κs = search needs
 
 add-row-requires : tie.Need-add-row-requires Inv-loop μ-loop
 add-row-requires c κs =
-    let s = c .before .before .before .before .before .before in
+    let s = c .before .before .before .before .before in
     (still (s .pre .0) (c .before .before .before .loop .inv .1), (search needs, search needs, search needs, search needs, λ e d. s .pre .1 .2 e))
 
 add-r : tie.Need-add-r Inv-loop μ-loop
@@ -45,11 +43,11 @@ loop-less c = search needs
 
 loop-again : tie.Need-loop-again Inv-loop μ-loop
 loop-again c =
-    let s = c .before .before .before .before .before .before .before .before .before in (
+    let s = c .before .before .before .before .before .before .before .before in (
       search needs,
       search needs,
-      turns-same _ (λ S p r i hp hr hi. added-more _ (s .pre .0 .known) _ _ _ (s .pre .1 .2) _ S _ _ p r i)
-          (turns-both _ (c .before .before .before .before .before .before .loop .inv .2) (rw (c .before .before .before .before .row-height .ensures) at (c .before .before .add-row .ensures (symbol _ (s .args .m)) (rw (c .before .before .before .before .before .before .before .products-of .ensures) (multiplies _ _ (s .pre .0 .known)))))),
+      λ ρ m. turns-same _ (λ S p r i hp hr hi. added-more _ (s .pre .0 .known) _ _ _ (s .pre .1 .2) ρ S _ _ p r i)
+          (turns-both _ (c .before .before .before .before .before .before .loop .inv .2 ρ m) (rw (c .before .before .before .before .row-height .ensures) at (c .before .before .add-row .ensures ρ m))),
     )
 
 same-length : tie.Need-same-length Inv-loop μ-loop
@@ -57,7 +55,7 @@ same-length c = search needs
 
 returns : tie.Need-returns Inv-loop μ-loop
 returns c =
-    let r : c .before .loop .r ≡ 2 * c .before .before .before .before .args .q = omega arith in
+    let r : c .before .loop .r ≡ 2 * c .before .before .before .args .q = omega arith in
     rw r at (c .before .loop .inv .2)
 
 pub add-polynomial-spec : {M : Type 1} → statement M
@@ -66,7 +64,6 @@ add-polynomial-spec =
     (tie.spec
     Inv-loop
     μ-loop
-    products-of-requires
     mul-r-end
     loop-holds
     row-height-requires

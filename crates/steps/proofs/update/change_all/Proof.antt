@@ -21,18 +21,18 @@ use Rattle.steps.proofs.update.change_all.Statement.{statement}
 use Rattle.steps.proofs.update.change_all.Tie as tie
 
 abbrev Inv-loop : tie.InvT-loop
-Inv-loop work₀ q heights₀ vote pairs i₀ work heights i =
+Inv-loop table work₀ q heights₀ vote pairs i₀ work heights i =
     (i ≤ q) × (length work ≡ length work₀) × (length heights ≡ length heights₀) × Heights q heights
     × ((S : Polynomials (symbols q) q) (ω : Sym q) (P : ℕ → Pairing (symbols q) q) → vote ≡ number q ω
     → ((j : ℕ) → j < q → NumbersOf q (pairAt pairs j) (P j)) → Below q heights₀ (cellsOf q S)
     → BecomesBelow q work₀ work S (updated (symbols q) q ω (tab q P) S i) heights)
 
 abbrev μ-loop : tie.MeasureT-loop
-μ-loop work₀ q heights₀ vote pairs i₀ work heights i = q - i
+μ-loop table work₀ q heights₀ vote pairs i₀ work heights i = q - i
 
 loop-holds : tie.Need-loop-holds Inv-loop μ-loop
 loop-holds c =
-    let s = c .before .before in (
+    let s = c .before .before .before in (
       search needs,
       search needs,
       search needs,
@@ -43,16 +43,16 @@ loop-holds c =
     )
 
 mul-pair : tie.Need-mul-pair Inv-loop μ-loop
-mul-pair c = omega (arith, c .before .before .before .before .pre .0 .few)
+mul-pair c = omega (arith, c .before .before .before .before .before .pre .0 .few)
 
 array-copy-out-pair : tie.Need-array-copy-out-pair Inv-loop μ-loop
-array-copy-out-pair c = omega (arith, c .before .before .before .before .pre .0 .few)
+array-copy-out-pair c = omega (arith, c .before .before .before .before .before .pre .0 .few)
 
 change-requires : tie.Need-change-requires Inv-loop μ-loop
 change-requires c κs =
-    let s = c .before .before .before .before .before .before .before in
+    let s = c .before .before .before .before .before .before .before .before in
     let turn = c .before .before .before .before .loop in
-    (still (s .pre .0) (turn .inv .1), (turn .inv .3, (c .before .before .before .loop-test .taken, s .pre .1 .1 (turn .i) (c .before .before .before .loop-test .taken))))
+    (still (s .pre .0) (turn .inv .1), (turn .inv .3, (c .before .before .before .loop-test .taken, s .pre .1 .1 .0 (turn .i) (c .before .before .before .loop-test .taken), s .pre .1 .1 .1)))
 
 add-i : tie.Need-add-i Inv-loop μ-loop
 add-i c = search needs
@@ -62,7 +62,7 @@ loop-less c = search needs
 
 loop-again : tie.Need-loop-again Inv-loop μ-loop
 loop-again c =
-    let s = c .before .before .before .before .before .before .before .before .before .before .before .before in
+    let s = c .before .before .before .before .before .before .before .before .before .before .before .before .before in
     let turn = c .before .before .before .before .before .before .before .before .before .loop in
     let more = c .before .before .before .before .before .before .before .before .loop-test .taken in (
       search needs,
@@ -83,7 +83,7 @@ same-length-2 c = search needs
 
 returns : tie.Need-returns Inv-loop μ-loop
 returns c =
-    let i : c .before .loop .i ≡ c .before .before .before .before .args .q = omega arith in
+    let i : c .before .loop .i ≡ c .before .before .before .before .before .args .q = omega arith in
     (c .before .loop .inv .3, rw i at (c .before .loop .inv .4))
 
 pub change-all-spec : {M : Type 1} → statement M

@@ -4,34 +4,32 @@ use mathlib.Core.Path.{_≡_}
 use Prim.Native.Nat.{_-_, _*_, _≤_}
 use native.Mathlib.Omega.{arith}
 use lib.ListN.{length}
-use Rattle.symbols.specs.Rule.{symbol}
-use Rattle.steps.specs.Area.{Turns, polynomialsExchanged}
+use Rattle.symbols.specs.Rule.{Sym}
+use Rattle.steps.specs.Area.{Turns, Multiplies, polynomialsExchanged}
 use Rattle.steps.proofs.Cells.{still, turns-none, turns-same, turns-both}
-use Rattle.steps.proofs.RowLaws.{multiplies}
 use Rattle.steps.proofs.UpdateCells.{exchanged-none, exchanged-more}
 use borrow.Author.Needs.{needs}
 use Rattle.steps.proofs.update.exchange_polynomials.Statement.{statement}
 use Rattle.steps.proofs.update.exchange_polynomials.Tie as tie
 
 abbrev Inv-loop : tie.InvT-loop
-Inv-loop work₀ q f g shift m products r₀ r-end work r = (r ≤ 2 * q) × (length work ≡ length work₀) × Turns q work₀ work (polynomialsExchanged q f g shift (symbol q m) r)
+Inv-loop work₀ q f g shift products r₀ r-end work r =
+    (r ≤ 2 * q) × (length work ≡ length work₀)
+    × ((ρ : Sym q) → Multiplies q products ρ → Turns q work₀ work (polynomialsExchanged q f g shift ρ r))
 
 abbrev μ-loop : tie.MeasureT-loop
-μ-loop work₀ q f g shift m products r₀ r-end work r = 2 * q - r
-
-products-of-requires : tie.Need-products-of-requires Inv-loop μ-loop
-products-of-requires c κs = search needs
+μ-loop work₀ q f g shift products r₀ r-end work r = 2 * q - r
 
 mul-r-end : tie.Need-mul-r-end Inv-loop μ-loop
 mul-r-end c = search needs
 
 loop-holds : tie.Need-loop-holds Inv-loop μ-loop
 loop-holds c =
-    (search needs, search needs, turns-same _ (λ S p r i hp hr hi. exchanged-none _ (c .before .before .pre .0 .known) _ _ _ (c .before .before .pre .1 .2) _ S p r i) (turns-none _))
+    (search needs, search needs, λ ρ m. turns-same _ (λ S p r i hp hr hi. exchanged-none _ (c .before .pre .0 .known) _ _ _ (c .before .pre .1 .2) ρ S p r i) (turns-none _))
 
 exchange-row-requires : tie.Need-exchange-row-requires Inv-loop μ-loop
 exchange-row-requires c κs =
-    let s = c .before .before .before .before .before in
+    let s = c .before .before .before .before in
     (still (s .pre .0) (c .before .before .loop .inv .1), (search needs, search needs, search needs, s .pre .1 .2))
 
 add-r : tie.Need-add-r Inv-loop μ-loop
@@ -42,11 +40,11 @@ loop-less c = search needs
 
 loop-again : tie.Need-loop-again Inv-loop μ-loop
 loop-again c =
-    let s = c .before .before .before .before .before .before .before .before in (
+    let s = c .before .before .before .before .before .before .before in (
       search needs,
       search needs,
-      turns-same _ (λ S p r i hp hr hi. exchanged-more _ (s .pre .0 .known) _ _ _ (s .pre .1 .2) _ S _ p r i)
-          (turns-both _ (c .before .before .before .before .before .loop .inv .2) (c .before .before .exchange-row .ensures (symbol _ (s .args .m)) (rw (c .before .before .before .before .before .before .products-of .ensures) (multiplies _ _ (s .pre .0 .known))))),
+      λ ρ m. turns-same _ (λ S p r i hp hr hi. exchanged-more _ (s .pre .0 .known) _ _ _ (s .pre .1 .2) ρ S _ p r i)
+          (turns-both _ (c .before .before .before .before .before .loop .inv .2 ρ m) (c .before .before .exchange-row .ensures ρ m)),
     )
 
 same-length : tie.Need-same-length Inv-loop μ-loop
@@ -54,7 +52,7 @@ same-length c = search needs
 
 returns : tie.Need-returns Inv-loop μ-loop
 returns c =
-    let r : c .before .loop .r ≡ 2 * c .before .before .before .before .args .q = omega arith in
+    let r : c .before .loop .r ≡ 2 * c .before .before .before .args .q = omega arith in
     rw r at (c .before .loop .inv .2)
 
 pub exchange-polynomials-spec : {M : Type 1} → statement M
@@ -63,7 +61,6 @@ exchange-polynomials-spec =
     (tie.spec
     Inv-loop
     μ-loop
-    products-of-requires
     mul-r-end
     loop-holds
     exchange-row-requires
