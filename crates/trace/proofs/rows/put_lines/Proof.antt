@@ -26,17 +26,17 @@ use Rattle.trace.proofs.rows.put_lines.Statement.{statement}
 use Rattle.trace.proofs.rows.put_lines.Tie as tie
 
 abbrev Inv-loop : tie.InvT-loop
-Inv-loop out₀ q u row work₀ count next₀ heights₀ t₀ out work next heights t =
+Inv-loop out₀ q u row work₀ count next₀ table heights₀ t₀ out work next heights t =
     (t ≤ count) × (length out ≡ length out₀) × (length work ≡ length work₀)
     × Starts q work (cellsOf q (stateAfter q u row t .polys)) × Wrote out₀ next₀ (stepLines q u row t) out next
     × Heights q heights × (length heights ≡ 8) × BelowAfter q u row t heights
 
 abbrev μ-loop : tie.MeasureT-loop
-μ-loop out₀ q u row work₀ count next₀ heights₀ t₀ out work next heights t = count - t
+μ-loop out₀ q u row work₀ count next₀ table heights₀ t₀ out work next heights t = count - t
 
 -- the function's start and calls before the loop, from the loop's head
 abbrev coded : tie.At-loop Inv-loop μ-loop → tie.After-put-code Inv-loop μ-loop
-coded c = c .before .before .before .before
+coded c = c .before .before .before .before .before
 
 abbrev counted : tie.At-loop Inv-loop μ-loop → tie.After-step-count Inv-loop μ-loop
 counted c = coded c .before .before
@@ -79,21 +79,21 @@ steps-fit c = omega (arith, reached c, few-steps c, c .loop .inv .0, coded c .pu
 
 -- after a step: the area shows the next state, the vote is the one of that state, and the heights bound its upper parts
 next-state : (c : tie.After-take-step Inv-loop μ-loop)
-    → let head = c .before .before .before .before in
+    → let head = c .before .before .before .before .before in
     let a = start head .args in
     let next = stateAfter (a .q) (a .u) (a .row .now) (suc (head .loop .t)) in
-    Starts (a .q) (c .take-step .last .1 .1 .1 .0) (cellsOf (a .q) (next .polys))
+    Starts (a .q) (c .take-step .last .1 .1 .1 .1 .0) (cellsOf (a .q) (next .polys))
     × (c .take-step .result ≡ voteAt (a .q) (counted head .step-count .result - 1 - head .loop .t) next)
-    × BelowAfter (a .q) (a .u) (a .row .now) (head .loop .t + 1) (c .take-step .last .1 .1 .1 .1 .0)
+    × BelowAfter (a .q) (a .u) (a .row .now) (head .loop .t + 1) (c .take-step .last .1 .1 .1 .1 .1 .0)
 next-state c =
-    let head = c .before .before .before .before in
+    let head = c .before .before .before .before .before in
     let a = start head .args in
     let t = head .loop .t in
     let shows = head .loop .inv .3 in
     let picture = picture-of (a .q) (a .u) (a .row .now) t shows in
     let taken = c .take-step .ensures .1 (a .row .now) (shows .rest) picture (head .loop .inv .7) in
     let after = stepped (a .q) (a .u) (a .row .now) t (shows .rest)
-    (omega (arith, c .before .before .before .loop-test .taken, counted head .step-count .ensures)) (taken .0) in
+    (omega (arith, c .before .before .before .before .loop-test .taken, counted head .step-count .ensures)) (taken .0) in
     (after .0, rw (weight-is (a .q) t (counted head .step-count .ensures)) (after .1), taken .1)
 
 step-count-requires : tie.Need-step-count-requires Inv-loop μ-loop
@@ -105,55 +105,62 @@ put-code-requires c κs =
     let full = start .pre .0 in
     omega (arith, length-code-line (start .args .q) (start .args .u) (full .known) (full .code), start .pre .1 .0 .1)
 
+table-of-requires : tie.Need-table-of-requires Inv-loop μ-loop
+table-of-requires c κs = c .before .before .before .before .before .before .before .before .pre .0 .known
+
 start-heights-requires : tie.Need-start-heights-requires Inv-loop μ-loop
-start-heights-requires c κs = c .before .before .before .before .before .before .before .before .pre .0 .known
+start-heights-requires c κs = c .before .before .before .before .before .before .before .before .before .pre .0 .known
 
 loop-holds : tie.Need-loop-holds Inv-loop μ-loop
 unfolding stepLines
 loop-holds c =
-    let start = c .before .before .before .before .before .before .before .before .before in
+    let start = c .before .before .before .before .before .before .before .before .before .before in
     let known = start .pre .0 .known in
     let heights = c .start-heights .ensures in (
       omega arith,
       refl,
       refl,
       start .pre .1 .1,
-      wrote-nothing (c .before .before .before .put-code .last .0) (c .before .before .before .put-code .result),
+      wrote-nothing (c .before .before .before .before .put-code .last .0) (c .before .before .before .before .put-code .result),
       start-many (start .args .q) (c .start-heights .result) known heights,
       heights .long,
       below-start (start .args .q) known (c .start-heights .result) heights (start .args .u) (start .args .row .now),
     )
 
 slice-aggregate-take-step : tie.Need-slice-aggregate-take-step Inv-loop μ-loop
-slice-aggregate-take-step c = sym (c .before .before .before .loop .inv .6)
+slice-aggregate-take-step c = sym (c .before .before .before .before .table-of .ensures .long)
+
+slice-aggregate-take-step-2 : tie.Need-slice-aggregate-take-step-2 Inv-loop μ-loop
+slice-aggregate-take-step-2 c = sym (c .before .before .before .before .loop .inv .6)
 
 take-step-requires : tie.Need-take-step-requires Inv-loop μ-loop
 take-step-requires c κs =
-    let head = c .before .before .before in
+    let head = c .before .before .before .before in
     let known = start head .pre .0 .known in (
       (
         known,
         omega (arith, large head, sizes (start head .args .q) known .area),
-        omega (arith, c .before .before .loop-test .taken, counted head .step-count .ensures),
+        omega (arith, c .before .before .before .loop-test .taken, counted head .step-count .ensures),
+        head .before .before .table-of .ensures,
       ),
       head .loop .inv .5,
     )
 
 sub-put-step-line : tie.Need-sub-put-step-line Inv-loop μ-loop
-sub-put-step-line c = omega (arith, c .before .before .before .before .before .before .before .loop-test .taken)
+sub-put-step-line c = omega (arith, c .before .before .before .before .before .before .before .before .loop-test .taken)
 
 sub-put-step-line-2 : tie.Need-sub-put-step-line-2 Inv-loop μ-loop
-sub-put-step-line-2 c = omega (arith, c .before .before .before .before .before .before .before .loop-test .taken)
+sub-put-step-line-2 c = omega (arith, c .before .before .before .before .before .before .before .before .loop-test .taken)
 
 put-step-line-requires : tie.Need-put-step-line-requires Inv-loop μ-loop
 put-step-line-requires c κs =
     let step = c .before .before .before .before .before in
-    let head = step .before .before .before .before in
+    let head = step .before .before .before .before .before in
     let known = start head .pre .0 .known in
     let after = next-state step in (
-      area-of known (omega (arith, large head, step .take-step .kept .1 .1 .1 .0, sizes (start head .args .q) known .area)),
+      area-of known (omega (arith, large head, step .take-step .kept .1 .1 .1 .1 .0, sizes (start head .args .q) known .area)),
       (
-        (omega (arith, few-steps head), omega (arith, reached head, few-steps head, long head, step .before .before .before .loop-test .taken)),
+        (omega (arith, few-steps head), omega (arith, reached head, few-steps head, long head, step .before .before .before .before .loop-test .taken)),
         record { state = _; shows = after .0; voted = after .1 },
       ),
     )
@@ -168,19 +175,19 @@ loop-again : tie.Need-loop-again Inv-loop μ-loop
 loop-again c =
     let line = c .before .before in
     let step = line .before .before .before .before .before .before in
-    let head = step .before .before .before .before in
+    let head = step .before .before .before .before .before in
     let a = start head .args in
     let t = head .loop .t in
     let next = stateAfter (a .q) (a .u) (a .row .now) (suc t) in
     let after = next-state step in
     let written = rw (weight-is (a .q) t (counted head .step-count .ensures)) at (line .put-step-line .ensures next (after .0) (after .1)) in (
-      omega (arith, step .before .before .before .loop-test .taken),
+      omega (arith, step .before .before .before .before .loop-test .taken),
       line .put-step-line .kept .0 ∙ head .loop .inv .1,
-      step .take-step .kept .1 .1 .1 .0 ∙ head .loop .inv .2,
+      step .take-step .kept .1 .1 .1 .1 .0 ∙ head .loop .inv .2,
       rw add-one (after .0),
       lines-more (a .q) (a .u) (a .row .now) t (steps-fit head) (head .loop .inv .4) written,
       step .take-step .ensures .0,
-      step .take-step .kept .1 .1 .1 .1 .0 ∙ head .loop .inv .6,
+      step .take-step .kept .1 .1 .1 .1 .1 .0 ∙ head .loop .inv .6,
       after .2,
     )
 
@@ -219,9 +226,11 @@ put-lines-spec =
     μ-loop
     step-count-requires
     put-code-requires
+    table-of-requires
     start-heights-requires
     loop-holds
     slice-aggregate-take-step
+    slice-aggregate-take-step-2
     take-step-requires
     sub-put-step-line
     sub-put-step-line-2
