@@ -1,7 +1,7 @@
 // Weights, codes and points of the curve y^q + y = x^(q+1).
 use refusals::Refusal;
 ghost use mathlib.Core.Path.{_≡_};
-ghost use Prim.Native.Nat.{ℕ, _+_, _<_};
+ghost use Prim.Native.Nat.{ℕ, _+_, _/_, _%_, _<_};
 ghost use Rattle.algebra.specs.Symbols.{power};
 ghost use Rattle.algebra.specs.Weights.{gap};
 ghost use Rattle.symbols.specs.Rule.{Known, symbols, number, symbol};
@@ -35,12 +35,28 @@ const SETS_4: [[u8; 4]; 4] = [[0, 1, 6, 7], [2, 3, 4, 5], [10, 11, 12, 13], [8, 
 
 const SETS_2: [[u8; 4]; 2] = [[0, 1, 0, 0], [2, 3, 0, 0]];
 
+// The remainder by q. A divisor that the compiler does not know takes it many times as long as one that it does.
+pub fn remainder(q: usize, n: usize) -> usize
+    requires { ⌜ Known q ⌝ }
+    ensures { λ r. ⌜ r ≡ n % q ⌝ }
+{
+    if q == 4 { n % 4 } else { n % 2 }
+}
+
+// The quotient by q.
+fn quotient(q: usize, n: usize) -> usize
+    requires { ⌜ Known q ⌝ }
+    ensures { λ r. ⌜ r ≡ n / q ⌝ }
+{
+    if q == 4 { n / 4 } else { n / 2 }
+}
+
 // Whether no monomial has this weight.
 pub fn is_gap(q: usize, s: usize) -> bool
     requires { ⌜ Known q ⌝ }
     ensures { λ r. ⌜ r ≡ gap q s ⌝ }
 {
-    s < (q + 1) * (s % q)
+    s < (q + 1) * remainder(q, s)
 }
 
 // The monomial of a weight, or that the weight is a gap.
@@ -48,13 +64,13 @@ pub fn monomial_of(q: usize, s: usize) -> Monomial
     requires { ⌜ Known q ⌝ }
     ensures { λ r. ⌜ r ≡ monomialOf q s ⌝ }
 {
-    let y = s % q;
+    let y = remainder(q, s);
     let least = (q + 1) * y;
     if s < least {
         Monomial::Gap
     } else {
         Monomial::Powers {
-            x: (s - least) / q,
+            x: quotient(q, s - least),
             y,
         }
     }

@@ -26,8 +26,13 @@ fn quotient_of(q: usize, total: usize) -> i64
     requires { ⌜ total ≤ 1000 ⌝ }
     ensures { λ k. ⌜ k ≡ kOf q total ⌝ }
 {
-    let low = (q + 1) * (total % q);
-    ((total as i64) - (low as i64)) / (q as i64)
+    let low = (q + 1) * curve::remainder(q, total);
+    let difference = (total as i64) - (low as i64);
+    if q == 4 {
+        difference / 4
+    } else {
+        difference / 2
+    }
 }
 
 // The numbers of pair i at step s, for a step that votes or does not.
@@ -51,7 +56,7 @@ fn pair_of(
     let a = f.degree;
     let mu = f.coefficient;
     let total = q * a + (q + 1) * i + s;
-    let partner = total % q;
+    let partner = curve::remainder(q, total);
     let k = quotient_of(q, total);
     let g = reading::leading_of(work, q, partner, q + partner);
     let d = g.degree;

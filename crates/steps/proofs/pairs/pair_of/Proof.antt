@@ -14,6 +14,7 @@ use Rattle.symbols.specs.Rule.{symbols}
 use Rattle.published.specs.Start.{Polynomials}
 use Rattle.steps.specs.Area.{cellsOf, Short}
 use Rattle.steps.specs.Heights.{Below}
+use Rattle.steps.specs.Pairs.{Held}
 use Rattle.steps.proofs.Signed.{Divided, divided, k-small, back, less-small, less-fits, less-value, negative-yes, negative-no, cast-fits}
 use Rattle.steps.proofs.PairNumbers.{lead-f, quotient-is, pair-negative, pair-voted, pair-plain}
 use borrow.Author.Needs.{needs}
@@ -54,13 +55,13 @@ module _ (c : tie.After-leading-of) where
   k = c .before .quotient-of .result
 
   abbrev kIs : ℤ
-  kIs = kOf (c .before .before .before .before .before .before .before .args .q) (total (c .before .before))
+  kIs = kOf (c .before .before .before .before .before .before .before .before .args .q) (total (c .before .before .before))
 
   low : natAbs k ≤ 1000
-  low = rw (c .before .quotient-of .ensures) (k-small _ _ (parts (c .before .before)))
+  low = rw (c .before .quotient-of .ensures) (k-small _ _ (parts (c .before .before .before)))
 
   degree : c .leading-of .result .degree ≤ 1000
-  degree = omega (arith, c .before .before .before .before .before .before .before .pre .0 .narrow, c .leading-of .ensures .0)
+  degree = omega (arith, c .before .before .before .before .before .before .before .before .pre .0 .narrow, c .leading-of .ensures .0)
 
   c-is : toZ w64 (ofZ w64 (toZ w64 (c .leading-of .result .degree) -ℤ toZ w64 (ofZ w64 k))) ≡ pos (c .leading-of .result .degree) -ℤ kIs
   c-is = less-value _ k degree low ∙ ap (λ (z : ℤ). pos (c .leading-of .result .degree) -ℤ z) (c .before .quotient-of .ensures)
@@ -105,17 +106,17 @@ add-total-2 c = omega (arith, small c)
 add-total-3 : tie.Need-add-total-3
 add-total-3 c = omega (arith, small c)
 
-rem-partner : tie.Need-rem-partner
-rem-partner c = search needs
+remainder-requires : tie.Need-remainder-requires
+remainder-requires c κs = c .before .before .before .before .before .pre .0 .known
 
 quotient-of-requires : tie.Need-quotient-of-requires
-quotient-of-requires c κs = (c .before .before .before .before .before .pre .0 .known, small c .all)
+quotient-of-requires c κs = (c .before .before .before .before .before .before .pre .0 .known, small (c .before) .all)
 
 add-leading-of : tie.Need-add-leading-of
-add-leading-of c = omega (arith, parts (c .before))
+add-leading-of c = rw (c .before .remainder .ensures) (omega (arith, parts (c .before .before)))
 
 leading-of-requires : tie.Need-leading-of-requires
-leading-of-requires c κs = (c .before .before .before .before .before .before .pre .0, omega (arith, parts (c .before)))
+leading-of-requires c κs = (c .before .before .before .before .before .before .before .pre .0, rw (c .before .remainder .ensures) (omega (arith, parts (c .before .before))))
 
 cast-c : tie.Need-cast-c
 cast-c c = search needs
@@ -123,60 +124,67 @@ cast-c c = search needs
 sub-c : tie.Need-sub-c
 sub-c c = less-fits _ (k c) (degree c) (low c)
 
+-- the bounds of the pair, where its partner is what the remainder gave
+held : (c : tie.After-leading-of) (w mu : ℕ) → Held (c .before .before .before .before .before .before .before .before .args .q) (record { partner = c .before .before .remainder .result; c = toZ w64 (ofZ w64 (toZ w64 (c .leading-of .result .degree) -ℤ toZ w64 (ofZ w64 (k c)))); w = w; mu = mu; nu = c .leading-of .result .coefficient })
+held c w mu = record { partner = rw (c .before .before .remainder .ensures) (parts (c .before .before .before) .part); c = c-small c }
+
 returns : tie.Need-returns
 returns c =
     let d = c .before in
-    let s = c .before .before .before .before .before .before .before .before in (
-      record { partner = parts (d .before .before) .part; c = c-small d },
+    let s = c .before .before .before .before .before .before .before .before .before in
+    let r = c .before .before .before .remainder .ensures in (
+      held d _ _,
       λ S u narrow below z v.
-          pair-negative _ (s .pre .0 .known) S u _ _ (c .before .before .before .leading-below .result) (c .before .leading-of .result) (c .before .before .before .leading-below .ensures .1 (cellsOf _ S) z (short (c .before .before .before) S below)) (c .before .leading-of .ensures .1 (cellsOf _ S) z)
-          _ refl (c-is d) refl (negative-yes (kIs d) (rw (k-is d) at (c .if1 .taken))) refl refl,
+          pair-negative _ (s .pre .0 .known) S u _ _ (c .before .before .before .before .leading-below .result) (c .before .leading-of .result) (c .before .before .before .before .leading-below .ensures .1 (cellsOf _ S) z (short (c .before .before .before .before) S below)) (rw r at (c .before .leading-of .ensures .1 (cellsOf _ S) z))
+          _ r (c-is d) refl (negative-yes (kIs d) (rw (k-is d) at (c .if1 .taken))) refl refl,
     )
 
 add-coefficient-at : tie.Need-add-coefficient-at
 add-coefficient-at c = search needs
 
 add-coefficient-at-2 : tie.Need-add-coefficient-at-2
-add-coefficient-at-2 c = omega (arith, parts (c .before .before .before))
+add-coefficient-at-2 c = rw (c .before .before .before .remainder .ensures) (omega (arith, parts (c .before .before .before .before)))
 
 cast-coefficient-at : tie.Need-cast-coefficient-at
 cast-coefficient-at c =
     let d = c .before in
-    rw (k-is d) (cast-fits (kIs d) (omega (arith, k-small _ _ (parts (d .before .before)))) (negative-no (kIs d) (rw (k-is d) at (c .if1 .left)) .1))
+    rw (k-is d) (cast-fits (kIs d) (omega (arith, k-small _ _ (parts (d .before .before .before)))) (negative-no (kIs d) (rw (k-is d) at (c .if1 .left)) .1))
 
 coefficient-at-requires : tie.Need-coefficient-at-requires
-coefficient-at-requires c κs = (c .before .before .before .before .before .before .before .before .pre .0, omega (arith, parts (c .before .before .before)))
+coefficient-at-requires c κs = (c .before .before .before .before .before .before .before .before .before .pre .0, rw (c .before .before .before .remainder .ensures) (omega (arith, parts (c .before .before .before .before))))
 
 inverse-requires : tie.Need-inverse-requires
 inverse-requires c κs = search needs
 
 product-in-requires : tie.Need-product-in-requires
-product-in-requires c κs = let s = c .before .before .before .before .before .before .before .before .before .before .before in (s .pre .0 .known, s .pre .1 .1 .2)
+product-in-requires c κs = let s = c .before .before .before .before .before .before .before .before .before .before .before .before in (s .pre .0 .known, s .pre .1 .1 .2)
 
 returns-2 : tie.Need-returns-2
 returns-2 c =
     let d = c .before .before .before .before .before in
-    let s = c .before .before .before .before .before .before .before .before .before .before .before .before in
+    let s = c .before .before .before .before .before .before .before .before .before .before .before .before .before in
+    let r = c .before .before .before .before .before .before .before .remainder .ensures in
     let n = negative-no (kIs d) (rw (k-is d) at (c .before .before .before .before .if1 .left)) in (
-      record { partner = parts (d .before .before) .part; c = c-small d },
+      held d _ _,
       λ S u narrow below z v.
-          let lead = c .before .before .before .before .before .before .before .leading-below .ensures .1 (cellsOf _ S) z (short (c .before .before .before .before .before .before .before) S below) in
-          let read = rw (k-is d, n .1) at (c .before .before .before .coefficient-at .ensures (cellsOf _ S) narrow z) in
-          pair-voted _ (s .pre .0 .known) S u _ _ (c .before .before .before .before .before .before .before .leading-below .result) (c .before .before .before .before .before .leading-of .result) lead (c .before .before .before .before .before .leading-of .ensures .1 (cellsOf _ S) z)
-          _ refl (c-is d) refl (n .0) (v ∙ c .before .before .if2 .taken)
+          let lead = c .before .before .before .before .before .before .before .before .leading-below .ensures .1 (cellsOf _ S) z (short (c .before .before .before .before .before .before .before .before) S below) in
+          let read = rw (r, k-is d, n .1) at (c .before .before .before .coefficient-at .ensures (cellsOf _ S) narrow z) in
+          pair-voted _ (s .pre .0 .known) S u _ _ (c .before .before .before .before .before .before .before .before .leading-below .result) (c .before .before .before .before .before .leading-of .result) lead (rw r at (c .before .before .before .before .before .leading-of .ensures .1 (cellsOf _ S) z))
+          _ r (c-is d) refl (n .0) (v ∙ c .before .before .if2 .taken)
           (quotient-is _ (s .pre .0 .known) _ _ _ _ _ _ read (lead-f _ S _ _ lead) (c .before .inverse .ensures) (c .product-in .ensures)) refl,
     )
 
 returns-3 : tie.Need-returns-3
 returns-3 c =
     let d = c .before .before .before in
-    let s = c .before .before .before .before .before .before .before .before .before .before in
+    let s = c .before .before .before .before .before .before .before .before .before .before .before in
+    let r = c .before .before .before .before .before .remainder .ensures in
     let n = negative-no (kIs d) (rw (k-is d) at (c .before .before .if1 .left)) in (
-      record { partner = parts (d .before .before) .part; c = c-small d },
+      held d _ _,
       λ S u narrow below z v.
-          pair-plain _ (s .pre .0 .known) S u _ _ (c .before .before .before .before .before .leading-below .result) (c .before .before .before .leading-of .result) (c .before .before .before .before .before .leading-below .ensures .1 (cellsOf _ S) z (short (c .before .before .before .before .before) S below)) (c .before .before .before .leading-of .ensures .1 (cellsOf _ S) z)
-          _ refl (c-is d) refl (n .0) (v ∙ c .if2 .left)
-          (rw (k-is d, n .1) at (c .before .coefficient-at .ensures (cellsOf _ S) narrow z)) refl,
+          pair-plain _ (s .pre .0 .known) S u _ _ (c .before .before .before .before .before .before .leading-below .result) (c .before .before .before .leading-of .result) (c .before .before .before .before .before .before .leading-below .ensures .1 (cellsOf _ S) z (short (c .before .before .before .before .before .before) S below)) (rw r at (c .before .before .before .leading-of .ensures .1 (cellsOf _ S) z))
+          _ r (c-is d) refl (n .0) (v ∙ c .if2 .left)
+          (rw (r, k-is d, n .1) at (c .before .coefficient-at .ensures (cellsOf _ S) narrow z)) refl,
     )
 
 pub pair-of-spec : {M : Type 1} → statement M
@@ -193,7 +201,7 @@ pair-of-spec =
     mul-total-2
     add-total-2
     add-total-3
-    rem-partner
+    remainder-requires
     quotient-of-requires
     add-leading-of
     leading-of-requires
