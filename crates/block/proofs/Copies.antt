@@ -2,8 +2,8 @@
 -- Assumes nothing.
 use mathlib.Core.Path.{_≡_, refl, sym, ap, _∙_}
 use mathlib.Core.Logic.{⊎-elim}
-use mathlib.Core.Bool.{Bool, true, false, false≢true, and-eq-true-iff}
-use mathlib.Core.List.{List, [], _∷_}
+use mathlib.Core.Bool.{Bool, true, false}
+use mathlib.Core.List.{List}
 use Prim.Native.Nat.{ℕ, zero, suc, _+_, _/_, _≤_, _<_, zero-le}
 use native.Mathlib.Omega.{arith}
 use lib.Dec.{eqb}
@@ -14,11 +14,13 @@ use Rattle.refusals.specs.Numbers.{firstOf}
 use Rattle.refusals.proofs.Checks.{Passes, clear, refused, passed, decideChecks}
 use Rattle.lists.specs.Tables.{from, tab}
 use Rattle.lists.proofs.Numbers.{same-or-not}
+use Rattle.lists.proofs.Same.{same-lists}
 use Rattle.decoder.specs.declared.Decoded.{Decoded}
 use Rattle.decoder.specs.declared.Decoded.the-variants.{Accepted, Refused as Declined}
 use Rattle.decoder.specs.Decoding.{countOf, voted, decoded}
 use Rattle.block.specs.Layout.{tapeQ, tapeU, rowCount, blockRow, payloadRow}
-use Rattle.block.specs.Verification.{sameList, outcome, rowRecord, verdictFrom, allRecords, verifyChecks, verifyAnswer}
+use Rattle.lists.specs.Same.{sameList}
+use Rattle.block.specs.Verification.{outcome, rowRecord, verdictFrom, allRecords, verifyChecks, verifyAnswer}
 use Rattle.block.specs.Inside.{checksFor}
 use Rattle.block.specs.AsBytes.{byteChecks, verifyBytesAnswer}
 use Rattle.block.specs.Copy.{ReadAs, CopyOf}
@@ -27,16 +29,6 @@ use Rattle.block.specs.declared.Verified.{Verified}
 use Rattle.block.specs.declared.Verified.the-variants.{Copied, Refused}
 use Rattle.block.proofs.Verdicts.{byState}
 use Rattle.block.proofs.Outcomes.{accepted-within}
-
--- lists that compare as the same are the same
-same-lists : (xs ys : List ℕ) → sameList xs ys ≡ true → xs ≡ ys
-unfolding sameList
-same-lists [] [] same = refl
-same-lists [] (y ∷ ys) same = absurd (false≢true same)
-same-lists (x ∷ xs) [] same = absurd (false≢true same)
-same-lists (x ∷ xs) (y ∷ ys) same =
-    let halves = and-eq-true-iff (eqb x y) (sameList xs ys) .0 same in
-    rw (eqb-true x y (halves .0), same-lists xs ys (halves .1))
 
 -- only an acceptance of the same message has state 0
 state-equal : (answer : Decoded) (equal : Bool) → outcome answer equal .state ≡ 0

@@ -16,7 +16,8 @@ use Rattle.decoder.specs.declared.Decoded.the-variants.{Accepted, Refused}
 use Rattle.decoder.specs.Decoding.{countOf, judgement, voted, decoded, ifAccepted}
 use Rattle.decoder.proofs.Decoded.{the-type}
 use Rattle.block.specs.Layout.{tapeQ, tapeU, rowLength, messageLength, unpacked, blockRow}
-use Rattle.block.specs.Verification.{sameList, outcome, rowRecord}
+use Rattle.lists.specs.Same.{sameList}
+use Rattle.block.specs.Verification.{outcome, rowRecord}
 use Rattle.block.specs.Inside.{packedRecord}
 use Rattle.block.proofs.Reading.{row-part, message-part}
 use Rattle.block.proofs.Tape.{reach-is}

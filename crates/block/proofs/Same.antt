@@ -10,7 +10,7 @@ use lib.Dec.{eqb}
 use lib.ListN.{length, getD, drop, drop-of-length-le}
 use lib.Seq.{drop-cons}
 use borrow.Author.Tests.{eq-eqb, ne-eqb}
-use Rattle.block.specs.Verification.{sameList}
+use Rattle.lists.specs.Same.{sameList}
 
 -- what is compared from place i on
 same-from : (left right : List ℕ) (i : ℕ) → i < length left → i < length right

@@ -11,7 +11,8 @@ use Rattle.refusals.specs.Numbers.{Check, _if_, firstOf}
 use Rattle.published.specs.Picture.{areaSize}
 use Rattle.decoder.specs.Decoding.{voted, decoded}
 use Rattle.block.specs.Layout.{tapeQ, tapeU, rowLength, messageLength, rowCount, isBlock, unpacked}
-use Rattle.block.specs.Verification.{outcome, sameList}
+use Rattle.lists.specs.Same.{sameList}
+use Rattle.block.specs.Verification.{outcome}
 use Rattle.block.specs.declared.Record.{Record}
 use Rattle.block.specs.declared.Verified.{Verified}
 use Rattle.block.specs.declared.Verified.the-variants.{Copied, Differs, Unreadable, Refused}

@@ -1,6 +1,6 @@
 -- What verifying a block answers and leaves, for all inputs. Document 01, "Block and verification" and "Refusal numbers".
 -- Assumes nothing.
-use mathlib.Core.Bool.{Bool, true, false, not, _&&_}
+use mathlib.Core.Bool.{Bool, true, false, not}
 use mathlib.Core.List.{List, [], _∷_, _++_}
 use Prim.Native.Nat.{ℕ, suc, _+_, _*_}
 use lib.Dec.{eqb, ltb}
@@ -8,6 +8,7 @@ use lib.ListN.{length, drop}
 use Rattle.refusals.specs.declared.Refusal.the-variants.{ShortWork, BadBlock, WrongPayload, FewRecords}
 use Rattle.refusals.specs.Numbers.{Check, _if_, firstOf}
 use Rattle.lists.specs.Tables.{tab}
+use Rattle.lists.specs.Same.{sameList}
 use Rattle.published.specs.Picture.{areaSize}
 use Rattle.decoder.specs.declared.Decoded.{Decoded}
 use Rattle.decoder.specs.declared.Decoded.the-variants.{Accepted, Refused as Declined}
@@ -16,13 +17,6 @@ use Rattle.block.specs.Layout.{tapeQ, tapeU, rowCount, isBlock, blockRow
 use Rattle.block.specs.declared.Record.{Record}
 use Rattle.block.specs.declared.Verified.{Verified}
 use Rattle.block.specs.declared.Verified.the-variants.{Copied, Differs, Unreadable, Refused}
-
--- two messages have the same symbols
-unfoldable pub sameList : List ℕ → List ℕ → Bool
-sameList [] [] = true
-sameList [] (y ∷ ys) = false
-sameList (x ∷ xs) [] = false
-sameList (x ∷ xs) (y ∷ ys) = eqb x y && sameList xs ys
 
 -- "state 0 equal, 1 accepted but other message, 2 unreadable; and the count (0 when unreadable)"
 unfoldable pub outcome : Decoded → Bool → Record

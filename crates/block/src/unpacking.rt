@@ -5,7 +5,7 @@ ghost use Prim.Native.Nat.{_*_};
 ghost use lib.ListN.{length};
 ghost use Rattle.symbols.specs.Rule.{anyBeyond};
 ghost use Rattle.block.specs.Layout.{tapeQ, unpacked};
-ghost use Rattle.block.specs.Verification.{sameList};
+ghost use Rattle.lists.specs.Same.{sameList};
 
 // Two symbols from each byte.
 pub fn unpack(packed: &[u8], symbols: &mut [u8])

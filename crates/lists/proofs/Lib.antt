@@ -3,3 +3,4 @@ pub mod Tables
 pub mod Keep
 pub mod Put
 pub mod Grid
+pub mod Same

@@ -7,7 +7,7 @@ use mathlib.Core.Logic.{_⊎_, inl, inr, ⊎-elim}
 use Prim.Native.Nat.{ℕ, zero, suc, _+_, _-_, _*_, _<_, _≤_}
 use native.Mathlib.Omega.{arith}
 use lib.Dec.{eqb}
-use lib.ListN.{length, getD, set, length-set}
+use lib.ListN.{getD, set, length-set}
 use lib.Seq.{getD-set-same, getD-set-other}
 use borrow.Author.Tests.{ne-eqb}
 use Rattle.algebra.specs.Symbols.{Symbols}
@@ -25,12 +25,12 @@ use Rattle.steps.specs.Area.{Cells, cellsOf, Turns, withRows, firstSymbo
 use Rattle.steps.specs.Heights.{Heights, Below, BecomesBelow, AtStart, heightOfSum, heightsAdded, heightsExchanged}
 use Rattle.steps.specs.Stop.{stateAfter}
 use Rattle.steps.specs.Step.{BelowAfter}
-use Rattle.steps.proofs.Cells.{rows-in, rows-out}
+use Rattle.steps.proofs.Cells.{rows-out, all-rows}
 use Rattle.steps.proofs.ChangeLaws.{becomes, becomes-then}
 use Rattle.steps.proofs.Coefficients.{upper-row, cell-polynomials}
-use Rattle.steps.proofs.FirstSymbols.{first-cong, first-in, first-out}
+use Rattle.steps.proofs.FirstSymbols.{first-in, first-out}
 use Rattle.steps.proofs.HeightLaws.{sum-past}
-use Rattle.steps.proofs.ProductCells.{replaced-yes}
+use Rattle.steps.proofs.ReplaceCells.{replaced-yes}
 use Rattle.steps.proofs.ReplaceLaws.{substituted-none, substituted-cells}
 use Rattle.steps.proofs.RowLaws.{plus-is, raised-is}
 use Rattle.steps.proofs.Turned.{shift-zeros}
@@ -63,12 +63,6 @@ module _ (q : ℕ) (known : Known q) where
       (λ (l : n ≤ i). first-out q n a i l)
       (lt-or-ge i n)
 
-  -- a row of a polynomial whose rows are all replaced
-  all-rows : (p : ℕ) (F : ℕ → ℕ → K) (S : Cells q) (r i : ℕ) → r < 2 * q → withRows q p 0 (2 * q) F S p r i ≡ F r i
-  all-rows p F S r i hr =
-      let z : 0 + r ≡ r = omega arith in
-      ap (λ (k : ℕ). withRows q p 0 (2 * q) F S p k i) (sym z) ∙ rows-in q p 0 (2 * q) F S r i hr
-
   module _ (heights : List ℕ) (many : Heights q heights) (S : Cells q) (below : Below q heights S) (f g c : ℕ) (ρ : K) (hf : f < 2 * q) (hg : g < 2 * q) where
     -- after polynomial f has become f + ρ·x^c·g
     pub below-added : (n : ℕ) → Below q (heightsAdded q f g c heights) (polynomialAdded q f g n c ρ (2 * q) S)
@@ -79,7 +73,7 @@ module _ (q : ℕ) (known : Known q) where
               (λ (e : p ≡ f).
               let high = sum-past q (getD heights f 0) (getD heights g 0 + c) i hi (rw (e, getD-set-same heights f new 0 (omega (arith, many .enough))) at past) in
               rw e
-              (all-rows f F S r i (omega arith)
+              (all-rows q f F S r i (omega arith)
               ∙ plus-is q known (S f r) ρ c (firstSymbols q (rowHeight q n r) (S g r)) i
               ∙ nothing-added (S f r i) (shift (symbols q) q c (firstSymbols q (rowHeight q n r) (S g r)) i) ρ
               (below .above f r i hf hr hi (high .0))
@@ -105,7 +99,7 @@ module _ (q : ℕ) (known : Known q) where
           above = λ p r i hp hr hi past. ⊎-elim
               (λ (e : p ≡ g).
               rw e
-              (all-rows g (S f) inner r i (omega arith)
+              (all-rows q g (S f) inner r i (omega arith)
               ∙ below .above f r i hf hr hi (rw (e, getD-set-same (set heights f new) g (getD heights f 0) 0 (rw length-set (omega (arith, many .enough)))) at past)))
               (λ ng.
               rows-out q g 0 (2 * q) (S f) inner p r i (λ e. absurd (ng e))
@@ -128,7 +122,7 @@ module _ (q : ℕ) (known : Known q) where
             (λ (e : p ≡ f).
             let high = sum-past q (getD heights f 0 + c) (getD heights g 0) i hi (rw (e, getD-set-same heights f new 0 (omega (arith, many .enough))) at past) in
             rw e
-            (all-rows f F S r i (omega arith)
+            (all-rows q f F S r i (omega arith)
             ∙ raised-is q known (S f r) ρ c (S g r) i
             ∙ nothing-added (shift (symbols q) q c (S f r) i) (S g r i) ρ
             (shift-zeros (symbols q) q c (S f r) i (λ l. below .above f r (i - c) hf hr (omega arith) (omega (arith, high .0))))

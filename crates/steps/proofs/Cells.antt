@@ -123,6 +123,12 @@ module _ (q : ℕ) where
             let z : r ≡ d + (r - d) = omega arith in
             rw (e, z) (new (r - d) i (omega arith) ∙ sym (rows-in (r - d) i (omega arith)))
 
+  -- a row of a polynomial whose rows are all replaced
+  pub all-rows : (p : ℕ) (F : ℕ → ℕ → Sym q) (S : Cells q) (r i : ℕ) → r < 2 * q → withRows q p 0 (2 * q) F S p r i ≡ F r i
+  all-rows p F S r i hr =
+      let z : 0 + r ≡ r = omega arith in
+      ap (λ (k : ℕ). withRows q p 0 (2 * q) F S p k i) (sym z) ∙ rows-in p 0 (2 * q) F S r i hr
+
   -- one replaced row
   pub row-here : (p r : ℕ) (F : ℕ → Sym q) (S : Cells q) (i : ℕ) → withRows q p r 1 (λ n. F) S p r i ≡ F i
   row-here p r F S i =

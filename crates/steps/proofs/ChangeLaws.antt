@@ -22,7 +22,7 @@ use Rattle.published.specs.Start.{Polynomial, Polynomials, polynomial, width}
 use Rattle.published.specs.Pairing.{Pairing, positivePart, negativePart}
 use Rattle.published.specs.Steps.{raisedPart, reducedPart, replaced, exchanged, ratio, changed}
 use Rattle.steps.specs.Area.{Cells, cellsOf, Turns, Becomes, withRows, firstSymbols, rowHeight, plusMultiple, raisedPlus, polynomialAdded, polynomialsExchanged}
-use Rattle.steps.proofs.Cells.{picture-is, shown-same, rows-in, rows-out}
+use Rattle.steps.proofs.Cells.{picture-is, shown-same, rows-out, all-rows}
 use Rattle.steps.proofs.FirstSymbols.{first-in, first-all, height-upper, height-lower}
 use Rattle.steps.proofs.RowLaws.{plus-is, raised-is}
 use Rattle.steps.proofs.Turned.{shift-cong}
@@ -76,12 +76,6 @@ module _ (q : ℕ) (known : Known q) (S : Polynomials (symbols q) q) where
       ∙ sym (minus-is-plus q (shift (symbols q) q c (cellsOf q S (q + i) r) n) (ρ ⊗ cellsOf q S g r n))
       ∙ sym (held-polynomial q (raisedPart (symbols q) q S i g c ρ) r n hr hn)
 
-  -- a row of a polynomial whose rows are all replaced
-  all-rows : (p : ℕ) (F : ℕ → ℕ → K) (T : Cells q) (r n : ℕ) → r < 2 * q → withRows q p 0 (2 * q) F T p r n ≡ F r n
-  all-rows p F T r n hr =
-      let z : 0 + r ≡ r = omega arith in
-      ap (λ (k : ℕ). withRows q p 0 (2 * q) F T p k n) (sym z) ∙ rows-in q p 0 (2 * q) F T r n hr
-
   -- "new f_i is f_i - r·x^(-c)·g_i'"
   pub replaced-cells : (i g h c : ℕ) (ρ : K) → ((r n : ℕ) → r < q → n < width q → h ≤ n → cellsOf q S g r n ≡ symbols q .𝟘)
       → (p r n : ℕ) → p < 2 * q → r < 2 * q → n < width q
@@ -92,7 +86,7 @@ module _ (q : ℕ) (known : Known q) (S : Polynomials (symbols q) q) where
       ⊎-elim
       (λ (e : p ≡ q + i).
       rw e
-      (all-rows (q + i) F (cellsOf q S) r n hr
+      (all-rows q (q + i) F (cellsOf q S) r n hr
       ∙ reduced-cell i g h c ρ short r n hr hn
       ∙ sym (chosen (q + i) true (eq-eqb (q + i) (q + i) refl))
       ∙ sym (in-table new (q + i) r n (rw e at hp))))
@@ -128,14 +122,14 @@ module _ (q : ℕ) (known : Known q) (S : Polynomials (symbols q) q) where
       (λ (e : p ≡ q + i).
       rw e
       (rows-out q g 0 (2 * q) (cellsOf q S (q + i)) above (q + i) r n (λ z. absurd (omega arith))
-      ∙ all-rows (q + i) F (cellsOf q S) r n hr
+      ∙ all-rows q (q + i) F (cellsOf q S) r n hr
       ∙ raised-cell i g c ρ r n hr hn
       ∙ sym (chosen (q + i) true (eqb (q + i) g) (eq-eqb (q + i) (q + i) refl) refl)
       ∙ sym (in-table new (q + i) r n (rw e at hp))))
       (λ ne. ⊎-elim
       (λ (e : p ≡ g).
       rw e
-      (all-rows g (cellsOf q S (q + i)) above r n hr
+      (all-rows q g (cellsOf q S (q + i)) above r n hr
       ∙ cell-held q S (q + i) r n
       ∙ sym (chosen g false true (ne-eqb g (q + i) (λ z. omega arith)) (eq-eqb g g refl))
       ∙ sym (in-table new g r n (rw e at hp))))

@@ -6,6 +6,7 @@ pub mod HeightLaws
 mod RowLaws
 mod Turned
 mod ProductCells
+mod ReplaceCells
 mod UpdateCells
 mod Degrees
 mod Signed
@@ -19,6 +20,7 @@ pub mod NarrowLaws
 mod StepLaws
 mod VotePlaces
 mod StopChecks
+pub mod Settled
 mod StartBytes
 mod StartRows
 mod StartFirsts

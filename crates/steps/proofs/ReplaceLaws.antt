@@ -28,7 +28,8 @@ use Rattle.steps.specs.Area.{cellsOf, lowFunctionOf, plusProduct, produc
 use Rattle.steps.specs.Heights.{Below}
 use Rattle.steps.proofs.FirstSymbols.{first-all}
 use Rattle.steps.proofs.Cells.{rows-in, rows-out}
-use Rattle.steps.proofs.ProductCells.{product-cong, plusProduct-is, replaced-yes}
+use Rattle.steps.proofs.ProductCells.{product-cong, plusProduct-is}
+use Rattle.steps.proofs.ReplaceCells.{replaced-yes}
 use Rattle.steps.proofs.Coefficients.{upper-cell, lower-cell, upper-row, lower-row, cell-polynomials}
 
 -- the powers of a weight that is no gap

@@ -3,16 +3,15 @@
 -- Assumes nothing.
 use mathlib.Core.Path.{_≡_, refl, sym, ap, _∙_}
 use mathlib.Core.Logic.{⊎-elim}
-use mathlib.Core.Bool.{Bool, true, false, _&&_}
+use mathlib.Core.Bool.{Bool, true, false}
 use mathlib.Core.List.{List, [], _∷_, _++_, map}
 use Prim.Native.Nat.{ℕ, zero, suc, _+_, _-_, _≤_, _<_}
 use native.Mathlib.Nat.{mul-le-mul-right}
 use native.Mathlib.Numerals.{add-one}
 use native.Mathlib.Omega.{arith}
-use lib.Dec.{leb}
-use lib.ListN.{length, getD, set, replicate, length-map, length-set, length-replicate, length-append, getD-replicate, List·getD-map}
+use lib.ListN.{length, getD, set, replicate, length-map, length-set, length-replicate, length-append, getD-replicate}
 use lib.Seq.{getD-set-same, getD-set-other, ext-getD, set-append-left}
-use borrow.Author.Tests.{leb-true, le-leb, lt-leb}
+use borrow.Author.Tests.{le-leb, lt-leb}
 use Rattle.algebra.specs.Weights.{nongap}
 use Rattle.lists.specs.Tables.{from, tab, keep}
 use Rattle.lists.proofs.Numbers.{lt-or-ge, same-or-not}
@@ -26,7 +25,7 @@ use Rattle.curve.specs.Ranks.{rank}
 use Rattle.curve.proofs.Ranks.{rank-mono, rank-nongap, rank-gap, rank-below, dimension-rank, nongaps-at, nongaps-small, nongaps-pass, nongaps-rank}
 use Rattle.published.specs.Start.{startWeight, stepCount, start}
 use Rattle.published.specs.Pairing.{isVoted}
-use Rattle.published.specs.Steps.{after, step, pairings, messageOf}
+use Rattle.published.specs.Steps.{after, step, messageOf}
 use Rattle.published.specs.Meaning.{voteOn}
 use Rattle.published.specs.Picture.{picture}
 use Rattle.steps.specs.Stop.{stateAfter, pictureAfter, votesAfter}

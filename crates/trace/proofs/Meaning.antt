@@ -1,40 +1,18 @@
 -- What a text is read as is what it is taken as: the two readings of a text agree.
 -- Assumes nothing.
 use mathlib.Core.Path.{_≡_, refl, ap, ap₂, sym, _∙_, subst}
-use mathlib.Core.Bool.{Bool, true, false, false≢true, _&&_, and-false, and-eq-true-iff}
+use mathlib.Core.Bool.{Bool, true, false, _&&_, and-false, and-eq-true-iff}
 use mathlib.Core.List.{List, [], _∷_, map}
 use Prim.Native.Nat.{ℕ, zero, suc, _≤_, _<_}
 use native.Mathlib.Nat.{mod-eq-of-lt}
 use native.Mathlib.Omega.{arith}
-use borrow.Author.Tests.{eqb-true, eq-eqb, leb-true, le-leb, lt-leb, ltb-true, lt-ltb}
-use lib.Dec.{leb, ltb, eqb}
+use borrow.Author.Tests.{leb-true, le-leb, lt-leb, ltb-true, lt-ltb}
+use lib.Dec.{leb, ltb}
 use lib.ListN.{length, getD, take, drop}
-use Rattle.trace.specs.Request.{request, Taken, Said, asks, nothing, Means, numbersFrom, asByte, sameText, isTaken, ifTaken, saidBy, reading}
+use Rattle.lists.specs.Same.{sameList}
+use Rattle.lists.proofs.Same.{same-lists, same-itself}
+use Rattle.trace.specs.Request.{request, Taken, Said, asks, nothing, Means, numbersFrom, asByte, isTaken, ifTaken, saidBy, reading}
 use Rattle.trace.proofs.Numbers.{reads-request, numbers-small}
-
--- texts that pass the test are the same, and the same text passes it
-same-text : (a b : List ℕ) → sameText a b ≡ true → a ≡ b
-unfolding sameText
-same-text [] [] h = refl
-same-text [] (y ∷ b) h = absurd (false≢true h)
-same-text (x ∷ a) [] h = absurd (false≢true h)
-same-text (x ∷ a) (y ∷ b) h =
-    let t = and-eq-true-iff (eqb x y) (sameText a b) .0 h in
-    ap₂ _∷_ (eqb-true x y (t .0)) (same-text a b (t .1))
-
-text-same : (a : List ℕ) → sameText a a ≡ true
-unfolding sameText
-text-same [] = refl
-text-same (x ∷ a) = rw (eq-eqb x x refl) (text-same a)
-
--- whether two texts are the same is what the test says
-pub tells-same : (a b : List ℕ) (r : Bool) → (r ≡ true → a ≡ b) × (a ≡ b → r ≡ true) → r ≡ sameText a b
-tells-same a b true h = sym (subst (λ (l : List ℕ). sameText a l ≡ true) (h .0 refl) (text-same a))
-tells-same a b false h = by (sameText a b) refl
-  where
-    by : (t : Bool) → sameText a b ≡ t → false ≡ sameText a b
-    by true e = absurd (false≢true (h .1 (same-text a b e)))
-    by false e = sym e
 
 -- a row that is read has bytes, and bytes are read as they are
 bytes-small : (numbers : List ℕ) (i : ℕ) → getD (map asByte numbers) i 0 ≤ 255
@@ -49,7 +27,7 @@ bytes-same [] h = refl
 bytes-same (n ∷ row) h = ap₂ _∷_ (mod-eq-of-lt (omega (arith, h 0))) (bytes-same row (λ i. h (suc i)))
 
 -- the test's three parts
-is-taken : (text : List ℕ) (q u : ℕ) (row : List ℕ) → length text ≤ 4096 → 0 < length row → isTaken text q u row ≡ sameText text (request q u row)
+is-taken : (text : List ℕ) (q u : ℕ) (row : List ℕ) → length text ≤ 4096 → 0 < length row → isTaken text q u row ≡ sameList text (request q u row)
 unfolding isTaken
 is-taken text q u row short some = rw (le-leb (length text) 4096 short, lt-ltb 0 (length row) some)
 
@@ -67,17 +45,17 @@ reads-taken text q u row t =
     ap (numbersFrom 0) (t .says)
     ∙ reads-request q u row (omega (arith, t .short-q)) (omega (arith, t .short-u)) (t .some) (λ i. omega (arith, t .bytes i)) in
     let taken : isTaken text q u row ≡ true =
-    is-taken text q u row (t .short) (t .some) ∙ subst (λ (l : List ℕ). sameText text l ≡ true) (t .says) (text-same text) in
+    is-taken text q u row (t .short) (t .some) ∙ subst (λ (l : List ℕ). sameList text l ≡ true) (t .says) (same-itself text) in
     said-row text q u row row numbers (bytes-same row (t .bytes)) ∙ ap (λ (b : Bool). ifTaken b (asks q u row)) taken
 
 -- what passes the test is taken
 test-taken : (text : List ℕ) (q u : ℕ) (row : List ℕ) → q < 1000 → u < 1000 → ((i : ℕ) → getD row i 0 ≤ 255) → isTaken text q u row ≡ true → Taken text q u row
 unfolding isTaken
 test-taken text q u row hq hu bytes test =
-    let short = and-eq-true-iff (leb (length text) 4096) (ltb 0 (length row) && sameText text (request q u row)) .0 test in
-    let some = and-eq-true-iff (ltb 0 (length row)) (sameText text (request q u row)) .0 (short .1) in
+    let short = and-eq-true-iff (leb (length text) 4096) (ltb 0 (length row) && sameList text (request q u row)) .0 test in
+    let some = and-eq-true-iff (ltb 0 (length row)) (sameList text (request q u row)) .0 (short .1) in
     record {
-      says = same-text text (request q u row) (some .1);
+      says = same-lists text (request q u row) (some .1);
       some = ltb-true 0 (length row) (some .0);
       short-q = omega arith;
       short-u = omega arith;
@@ -152,7 +130,7 @@ reads-empty text q u rest row count numbers none bytes =
 
 -- where q, u and a row were read, the comparison decides
 pub reads-row : (text : List ℕ) (q u : ℕ) (rest row : List ℕ) (r : Bool) → length text ≤ 4096 → 0 < length row
-    → numbersFrom 0 text ≡ q ∷ u ∷ rest → row ≡ map asByte rest → r ≡ sameText text (request q u row)
+    → numbersFrom 0 text ≡ q ∷ u ∷ rest → row ≡ map asByte rest → r ≡ sameList text (request q u row)
     → ifTaken r (asks q u row) ≡ reading text
 reads-row text q u rest row r short some numbers bytes test =
     ap (λ (t : Bool). ifTaken t (asks q u row)) (test ∙ sym (is-taken text q u row short some))

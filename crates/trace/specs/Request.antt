@@ -7,6 +7,7 @@ use mathlib.Core.List.{List, [], _∷_, _++_, map}
 use Prim.Native.Nat.{ℕ, _+_, _*_, _-_, _%_, _≤_, _<_}
 use lib.Dec.{leb, ltb, eqb}
 use lib.ListN.{length, getD, drop}
+use Rattle.lists.specs.Same.{sameList}
 use Rattle.lines.specs.Text.{digits, spaced}
 
 -- a line: the numbers with single spaces between them, ended by a newline
@@ -61,16 +62,9 @@ numbersFrom value (byte ∷ text) =
 unfoldable pub asByte : ℕ → ℕ
 asByte n = n % 256
 
--- the same bytes in the same order
-unfoldable pub sameText : List ℕ → List ℕ → Bool
-sameText [] [] = true
-sameText [] (b ∷ bs) = false
-sameText (a ∷ as') [] = false
-sameText (a ∷ as') (b ∷ bs) = eqb a b && sameText as' bs
-
 -- the text is at most 4,096 bytes, the row has a number, and the text is the one of these numbers
 unfoldable pub isTaken : List ℕ → ℕ → ℕ → List ℕ → Bool
-isTaken text q u row = leb (length text) 4096 && (ltb 0 (length row) && sameText text (request q u row))
+isTaken text q u row = leb (length text) 4096 && (ltb 0 (length row) && sameList text (request q u row))
 
 -- what a text says by the test
 abbrev pub ifTaken : Bool → Said → Said

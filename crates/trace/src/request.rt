@@ -9,7 +9,8 @@ ghost use mathlib.Core.Path.{_≡_};
 ghost use Prim.Native.Nat.{_+_, _*_, _-_, _≤_, _<_};
 ghost use lib.ListN.{length, take, drop};
 ghost use Rattle.lines.specs.Text.{Wrote};
-ghost use Rattle.trace.specs.Request.{line, request, endsNumber, numbersFrom, asByte, sameText, reading, Means};
+ghost use Rattle.trace.specs.Request.{line, request, endsNumber, numbersFrom, asByte, reading, Means};
+ghost use Rattle.lists.specs.Same.{sameList};
 ghost use Rattle.trace.specs.Reader.{saying, countIn, FoundIn};
 ghost use Rattle.trace.specs.Request.{grown as Request·grown};
 
@@ -115,7 +116,7 @@ fn put_row(buffer: &mut [u8], at: usize, row: &[u8]) -> usize
 // Whether a text is the one of q, u and a row. A page has room for the longest: each number takes four bytes at most.
 fn is_text_of(text: &[u8], q: usize, u: usize, row: &[u8]) -> bool
     requires { ⌜ (q < 1000) × (u < 1000) × (0 < length (now row)) × (length (now row) ≤ 4096) ⌝ }
-    ensures { λ r. ⌜ r ≡ sameText (now (text .entry)) (request q u (now (row .entry))) ⌝ }
+    ensures { λ r. ⌜ r ≡ sameList (now (text .entry)) (request q u (now (row .entry))) ⌝ }
 {
     let mut page = [0u8; 16392];
     let second = put_code(&mut page, 0, q, u);

@@ -5,7 +5,7 @@ use Prim.Native.Nat.{_-_, _≤_}
 use native.Mathlib.Omega.{arith}
 use lib.ListN.{length, drop}
 use borrow.Author.Needs.{needs}
-use Rattle.block.specs.Verification.{sameList}
+use Rattle.lists.specs.Same.{sameList}
 use Rattle.block.proofs.Same.{same-next, same-not, same-all}
 use Rattle.block.proofs.unpacking.same_symbols.Statement.{statement}
 use Rattle.block.proofs.unpacking.same_symbols.Tie as tie

@@ -3,7 +3,6 @@
 use mathlib.Core.Path.{sym}
 use native.Mathlib.Omega.{arith}
 use Rattle.steps.proofs.HeightLaws.{larger-first, larger-second}
-use borrow.Author.Needs.{needs}
 use Rattle.steps.proofs.heights.larger.Statement.{statement}
 use Rattle.steps.proofs.heights.larger.Tie as tie
 

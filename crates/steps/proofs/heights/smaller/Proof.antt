@@ -3,7 +3,6 @@
 use mathlib.Core.Path.{sym}
 use native.Mathlib.Omega.{arith}
 use Rattle.steps.proofs.HeightLaws.{smaller-first, smaller-second}
-use borrow.Author.Needs.{needs}
 use Rattle.steps.proofs.heights.smaller.Statement.{statement}
 use Rattle.steps.proofs.heights.smaller.Tie as tie
 

@@ -7,7 +7,7 @@ use lib.ListN.{length}
 use Rattle.symbols.specs.Rule.{Sym}
 use Rattle.steps.specs.Area.{Turns, Multiplies, replacedZ}
 use Rattle.steps.proofs.Cells.{still, turns-none, turns-same, turns-both}
-use Rattle.steps.proofs.ProductCells.{parts-apart, replaced-none, replaced-more}
+use Rattle.steps.proofs.ReplaceCells.{parts-apart, replaced-none, replaced-more}
 use borrow.Author.Needs.{needs}
 use Rattle.steps.proofs.products.replace_z.Statement.{statement}
 use Rattle.steps.proofs.products.replace_z.Tie as tie

@@ -1,17 +1,14 @@
 -- A step that votes has its place just below those that have their votes.
 -- Assumes nothing.
-use mathlib.Core.Path.{_≡_, sym, ap, _∙_}
+use mathlib.Core.Path.{_≡_, sym, _∙_}
 use mathlib.Core.Bool.{true, false}
-use mathlib.Core.List.{List}
-use Prim.Native.Nat.{ℕ, _+_, _-_}
+use Prim.Native.Nat.{_+_, _-_}
 use native.Mathlib.Omega.{arith}
-use lib.ListN.{set}
 use denote.Ref.{now}
 use borrow.Author.Needs.{needs}
 use Rattle.curve.specs.Ranks.{rank}
 use Rattle.published.specs.Start.{startWeight, stepCount}
 use Rattle.published.specs.Pairing.{isVoted}
-use Rattle.steps.specs.Votes.{votesBelow}
 use Rattle.steps.proofs.VotePlaces.{voted-place, voted-left, unvoted-left, noted-met, noted-unmet}
 use Rattle.steps.proofs.service.note_vote.Statement.{statement}
 use Rattle.steps.proofs.service.note_vote.Tie as tie

@@ -8,7 +8,7 @@ use lib.Seq.{length-take-le}
 use Rattle.lines.proofs.Writing.{wrote-front, wrote-within}
 use Rattle.trace.specs.Request.{line}
 use Rattle.trace.proofs.Written.{length-first, length-line, wrote-request}
-use Rattle.trace.proofs.Meaning.{tells-same}
+use Rattle.lists.proofs.Same.{tells-same}
 use borrow.Author.Needs.{needs}
 use Rattle.trace.proofs.request.is_text_of.Statement.{statement}
 use Rattle.trace.proofs.request.is_text_of.Tie as tie

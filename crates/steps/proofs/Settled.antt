@@ -1,12 +1,11 @@
--- The promise of the stop service settles what is answered and left: any two results that it allows for one call are equal. With
--- what crates encoder, decoder and block show of their calls this is so of every call here, whose results are these as integers.
+-- The promise settles what is answered and left: any two results that it allows for one call are equal.
 -- Assumes nothing.
 use mathlib.Core.Path.{_≡_, sym, _∙_}
 use mathlib.Core.List.{List}
 use Prim.Native.Nat.{ℕ}
 use lib.ListN.{length}
 use Rattle.steps.specs.declared.Stopped.{Stopped}
 use Rattle.steps.specs.Stop.{stopChecks, stopAnswer, stopWork, stopOutput}
 
 -- all that is said of a call of `stop`
 pub record Stops (q u steps : ℕ) (row work output : List ℕ) (answer : Stopped) (work′ output′ : List ℕ) : Type 0 where
@@ -22,8 +21,8 @@ stop-settled q u steps row work output P P′ =
     (P .answer-is ∙ sym (P′ .answer-is), P .work-is ∙ sym (P′ .work-is), P .output-is ∙ sym (P′ .output-is))
 
 -- "No answer depends on what a work or output area held before": only their lengths count
-pub stop-answer-by-lengths : (q u steps : ℕ) (row work work′ output output′ : List ℕ)
+pub answer-by-lengths : (q u steps : ℕ) (row work work′ output output′ : List ℕ)
     → length work ≡ length work′ → length output ≡ length output′
     → stopAnswer q u steps row work output ≡ stopAnswer q u steps row work′ output′
 unfolding stopAnswer stopChecks
-stop-answer-by-lengths q u steps row work work′ output output′ e f = rw (e, f)
+answer-by-lengths q u steps row work work′ output output′ e f = rw (e, f)
