@@ -63,9 +63,12 @@ pub fn decode(
 ) -> Decoded
     ensures answered { λ r. ⌜ r ≡ decodeAnswer q u (now (row .entry)) (now (work .entry)) (now (message .entry)) (now (corrected .entry)) ⌝ }
     ensures work_left { λ _. ⌜ now (work .exit) ≡ decodeWork q u (now (row .entry)) (now (work .entry)) (now (message .entry)) (now (corrected .entry)) ⌝ }
-    ensures message_left { λ _. ⌜ now (message .exit) ≡ decodeMessage q u (now (row .entry)) (now (work .entry)) (now (message .entry)) (now (corrected .entry)) ⌝ }
-    ensures corrected_left { λ _. ⌜ now (corrected .exit) ≡ decodeCorrected q u (now (row .entry)) (now (work .entry)) (now (message .entry)) (now (corrected .entry)) ⌝ }
-    ensures undamaged { λ r. ⌜ Undamaged q u (now (row .entry)) (now (work .entry)) (now (message .entry)) (now (corrected .entry)) r (now (message .exit)) (now (corrected .exit)) ⌝ }
+    ensures message_left { λ _. ⌜ now (message .exit)
+        ≡ decodeMessage q u (now (row .entry)) (now (work .entry)) (now (message .entry)) (now (corrected .entry)) ⌝ }
+    ensures corrected_left { λ _. ⌜ now (corrected .exit)
+        ≡ decodeCorrected q u (now (row .entry)) (now (work .entry)) (now (message .entry)) (now (corrected .entry)) ⌝ }
+    ensures undamaged { λ r. ⌜ Undamaged q u (now (row .entry)) (now (work .entry)) (now (message .entry)) (now (corrected .entry))
+        r (now (message .exit)) (now (corrected .exit)) ⌝ }
 {
     if !symbols::is_known(q) {
         return Decoded::Refused(Refusal::UnknownQ);

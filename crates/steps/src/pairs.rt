@@ -49,7 +49,8 @@ fn pair_of(
     requires { ⌜ Heights q (now heights) ⌝ }
     requires { ⌜ (i < q) × (s ≤ 100) × HasProducts q (now table) ⌝ }
     ensures { λ pair. ⌜ Held q pair ⌝ }
-    ensures { λ pair. ⌜ ((S : Polynomials (symbols q) q) (u : ℕ) → Narrow q (cellsOf q S) → Below q (now (heights .entry)) (cellsOf q S) → Starts q (now (work .entry)) (cellsOf q S) → isVoted q u s ≡ voted → NumbersOf q pair (pairing (symbols q) q u s S i)) ⌝ }
+    ensures { λ pair. ⌜ ((S : Polynomials (symbols q) q) (u : ℕ) → Narrow q (cellsOf q S) → Below q (now (heights .entry)) (cellsOf q S)
+        → Starts q (now (work .entry)) (cellsOf q S) → isVoted q u s ≡ voted → NumbersOf q pair (pairing (symbols q) q u s S i)) ⌝ }
 {
     let height = heights[q + i];
     let f = reading::leading_below(work, q, q + i, i, height);
@@ -104,7 +105,9 @@ pub fn pairs_of(
     requires { ⌜ Heights q (now heights) ⌝ }
     requires { ⌜ (s ≤ 100) × HasProducts q (now table) ⌝ }
     ensures { λ pairs. ⌜ ((i : ℕ) → i < q → Held q (pairAt pairs i)) ⌝ }
-    ensures { λ pairs. ⌜ ((S : Polynomials (symbols q) q) (u : ℕ) → Narrow q (cellsOf q S) → Below q (now (heights .entry)) (cellsOf q S) → Starts q (now (work .entry)) (cellsOf q S) → isVoted q u s ≡ voted → (i : ℕ) → i < q → NumbersOf q (pairAt pairs i) (pairing (symbols q) q u s S i)) ⌝ }
+    ensures { λ pairs. ⌜ ((S : Polynomials (symbols q) q) (u : ℕ) → Narrow q (cellsOf q S) → Below q (now (heights .entry)) (cellsOf q S)
+        → Starts q (now (work .entry)) (cellsOf q S) → isVoted q u s ≡ voted
+        → (i : ℕ) → i < q → NumbersOf q (pairAt pairs i) (pairing (symbols q) q u s S i)) ⌝ }
 {
     let none = Pair {
         partner: 0,

@@ -125,7 +125,8 @@ pub fn replace_z(
     requires { ⌜ Area q (length (now work)) ⌝ }
     requires { ⌜ 2 * q ≤ length (now heights) ⌝ }
     requires { ⌜ (b < q) × (a ≤ 1000) ⌝ }
-    ensures { λ _. ⌜ ((ρ : Sym q) → Multiplies q products ρ → Turns q (now (work .entry)) (now (work .exit)) (replacedZ q (now (heights .entry)) a b ρ (2 * q))) ⌝ }
+    ensures { λ _. ⌜ ((ρ : Sym q) → Multiplies q products ρ
+        → Turns q (now (work .entry)) (now (work .exit)) (replacedZ q (now (heights .entry)) a b ρ (2 * q))) ⌝ }
 {
     for p in 0..2 * q {
         let upper = Part {
@@ -145,7 +146,8 @@ pub fn substitute(table: &[u8], work: &mut [u8], q: usize, heights: &[usize], s:
     requires { ⌜ Area q (length (now work)) ⌝ }
     requires { ⌜ 2 * q ≤ length (now heights) ⌝ }
     requires { ⌜ (s ≤ 1000) × ((vote ≡ 0 → ⊥) → gap q s ≡ false) × HasProducts q (now table) ⌝ }
-    ensures { λ _. ⌜ ((S : Polynomials (symbols q) q) (ω : Sym q) → vote ≡ number q ω → Below q (now (heights .entry)) (cellsOf q S) → Becomes q (now (work .entry)) (now (work .exit)) S (substituted (symbols q) q s ω S)) ⌝ }
+    ensures { λ _. ⌜ ((S : Polynomials (symbols q) q) (ω : Sym q) → vote ≡ number q ω → Below q (now (heights .entry)) (cellsOf q S)
+        → Becomes q (now (work .entry)) (now (work .exit)) S (substituted (symbols q) q s ω S)) ⌝ }
 {
     if vote == 0 {
         return;

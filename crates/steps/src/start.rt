@@ -134,7 +134,8 @@ fn add_multiple(work: &mut [u8], q: usize, first: usize, row: usize, i: usize)
 fn add_multiples(work: &mut [u8], q: usize, i: usize)
     requires { ⌜ Area q (length (now work)) ⌝ }
     requires { ⌜ (0 < i) × (i < q) ⌝ }
-    ensures { λ _. ⌜ ((h : List (List (Sym q))) (rest : List ℕ) → now (work .entry) ≡ shown q (begun q h i) ++ rest → now (work .exit) ≡ shown q (begun q h (i + 1)) ++ rest) ⌝ }
+    ensures { λ _. ⌜ ((h : List (List (Sym q))) (rest : List ℕ) → now (work .entry) ≡ shown q (begun q h i) ++ rest
+        → now (work .exit) ≡ shown q (begun q h (i + 1)) ++ rest) ⌝ }
 {
     add_multiple(work, q, 0, q, i);
     add_multiple(work, q, q, 0, i);
@@ -144,7 +145,8 @@ fn add_multiples(work: &mut [u8], q: usize, i: usize)
 // Makes all of them.
 fn add_all_multiples(work: &mut [u8], q: usize)
     requires { ⌜ Area q (length (now work)) ⌝ }
-    ensures { λ _. ⌜ ((h : List (List (Sym q))) (rest : List ℕ) → now (work .entry) ≡ shown q (begun q h 1) ++ rest → now (work .exit) ≡ shown q (begun q h q) ++ rest) ⌝ }
+    ensures { λ _. ⌜ ((h : List (List (Sym q))) (rest : List ℕ) → now (work .entry) ≡ shown q (begun q h 1) ++ rest
+        → now (work .exit) ≡ shown q (begun q h q) ++ rest) ⌝ }
 {
     for i in 1..q {
         add_multiples(work, q, i);
@@ -156,7 +158,8 @@ pub fn begin(table: &[u8], q: usize, row: &[u8], work: &mut [u8])
     requires { ⌜ Known q ⌝ }
     requires { ⌜ (length (now row) ≡ pointCount q) × (anyBeyond q (now row) ≡ false) × HasProducts q (now table) ⌝ }
     requires { ⌜ areaSize q ≤ length (now work) ⌝ }
-    ensures { λ _. ⌜ now (work .exit) ≡ picture (symbols q) q (start (symbols q) q (map (symbol q) (now (row .entry)))) ++ drop (areaSize q) (now (work .entry)) ⌝ }
+    ensures { λ _. ⌜ now (work .exit)
+        ≡ picture (symbols q) q (start (symbols q) q (map (symbol q) (now (row .entry)))) ++ drop (areaSize q) (now (work .entry)) ⌝ }
 {
     clear(work, area::area_size(q));
     put_firsts(work, q);

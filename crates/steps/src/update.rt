@@ -65,7 +65,8 @@ fn exchange_polynomials(
 // r = μ_i(w + w_i)/ν.
 fn ratio_of(table: &[u8], q: usize, vote: u8, w: u8, mu: u8, nu: u8) -> u8
     requires { ⌜ Known q × HasProducts q (now table) ⌝ }
-    ensures { λ r. ⌜ ((ω : Sym q) (P : Pairing (symbols q) q) → vote ≡ number q ω → w ≡ number q (P .w) → mu ≡ number q (P .μ) → nu ≡ number q (P .ν) → r ≡ number q (ratio (symbols q) q ω P)) ⌝ }
+    ensures { λ r. ⌜ ((ω : Sym q) (P : Pairing (symbols q) q) → vote ≡ number q ω → w ≡ number q (P .w) → mu ≡ number q (P .μ) → nu ≡ number q (P .ν)
+        → r ≡ number q (ratio (symbols q) q ω P)) ⌝ }
 {
     let product = symbols::product_in(table, q, mu, vote ^ w);
     let inverse = symbols::inverse(q, nu);
@@ -86,7 +87,8 @@ fn change(
     requires { ⌜ Heights q (now heights) ⌝ }
     requires { ⌜ (i < q) × Held q pair × HasProducts q (now table) ⌝ }
     ensures { λ _. ⌜ Heights q (now (heights .exit)) ⌝ }
-    ensures { λ _. ⌜ ((S : Polynomials (symbols q) q) (ω : Sym q) (P : Pairing (symbols q) q) → vote ≡ number q ω → NumbersOf q pair P → Below q (now (heights .entry)) (cellsOf q S)
+    ensures { λ _. ⌜ ((S : Polynomials (symbols q) q) (ω : Sym q) (P : Pairing (symbols q) q) → vote ≡ number q ω → NumbersOf q pair P
+        → Below q (now (heights .entry)) (cellsOf q S)
         → BecomesBelow q (now (work .entry)) (now (work .exit)) S (changed (symbols q) q ω i P S) (now (heights .exit))) ⌝ }
 {
     let w = pair.w;
@@ -122,7 +124,8 @@ pub fn change_all(
     requires { ⌜ Heights q (now heights) ⌝ }
     requires { ⌜ ((i : ℕ) → i < q → Held q (pairAt pairs i)) × HasProducts q (now table) ⌝ }
     ensures { λ _. ⌜ Heights q (now (heights .exit)) ⌝ }
-    ensures { λ _. ⌜ ((S : Polynomials (symbols q) q) (ω : Sym q) (P : ℕ → Pairing (symbols q) q) → vote ≡ number q ω → ((i : ℕ) → i < q → NumbersOf q (pairAt pairs i) (P i)) → Below q (now (heights .entry)) (cellsOf q S)
+    ensures { λ _. ⌜ ((S : Polynomials (symbols q) q) (ω : Sym q) (P : ℕ → Pairing (symbols q) q) → vote ≡ number q ω
+        → ((i : ℕ) → i < q → NumbersOf q (pairAt pairs i) (P i)) → Below q (now (heights .entry)) (cellsOf q S)
         → BecomesBelow q (now (work .entry)) (now (work .exit)) S (updated (symbols q) q ω (tab q P) S q) (now (heights .exit))) ⌝ }
 {
     for i in 0..q {

@@ -36,7 +36,8 @@ fn positive_part(c: i64) -> usize
 fn scores_of(pairs: [Pair; 4], q: usize) -> [usize; 16]
     requires { ⌜ Known q ⌝ }
     requires { ⌜ ((i : ℕ) → i < q → Held q (pairAt pairs i)) ⌝ }
-    ensures { λ scores. ⌜ ((P : ℕ → Pairing (symbols q) q) → ((i : ℕ) → i < q → NumbersOf q (pairAt pairs i) (P i)) → (a : ℕ) → a < 16 → getD scores a 0 ≡ score (symbols q) q (tab q P) a) ⌝ }
+    ensures { λ scores. ⌜ ((P : ℕ → Pairing (symbols q) q) → ((i : ℕ) → i < q → NumbersOf q (pairAt pairs i) (P i))
+        → (a : ℕ) → a < 16 → getD scores a 0 ≡ score (symbols q) q (tab q P) a) ⌝ }
 {
     let mut scores = [0usize; 16];
     for i in 0..q {
@@ -71,7 +72,8 @@ pub fn vote_of(pairs: [Pair; 4], q: usize, voted: bool) -> u8
     requires { ⌜ Known q ⌝ }
     requires { ⌜ ((i : ℕ) → i < q → Held q (pairAt pairs i)) ⌝ }
     ensures { λ r. ⌜ (voted ≡ false → r ≡ 0) ⌝ }
-    ensures { λ r. ⌜ ((P : ℕ → Pairing (symbols q) q) (u s : ℕ) → ((i : ℕ) → i < q → NumbersOf q (pairAt pairs i) (P i)) → isVoted q u s ≡ voted → r ≡ number q (vote (symbols q) q u s (tab q P))) ⌝ }
+    ensures { λ r. ⌜ ((P : ℕ → Pairing (symbols q) q) (u s : ℕ) → ((i : ℕ) → i < q → NumbersOf q (pairAt pairs i) (P i))
+        → isVoted q u s ≡ voted → r ≡ number q (vote (symbols q) q u s (tab q P))) ⌝ }
 {
     if voted {
         let scores = scores_of(pairs, q);

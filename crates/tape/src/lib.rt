@@ -54,7 +54,8 @@ pub extern "C" fn tape_decode(
     ensures result { λ r. ⌜ r ≡ decodeResult (decodeAnswer q u (now (row .entry)) (now (work .entry)) (now (message .entry)) (now (corrected .entry))) ⌝ }
     ensures work { λ _. ⌜ now (work .exit) ≡ decodeWork q u (now (row .entry)) (now (work .entry)) (now (message .entry)) (now (corrected .entry)) ⌝ }
     ensures message { λ _. ⌜ now (message .exit) ≡ decodeMessage q u (now (row .entry)) (now (work .entry)) (now (message .entry)) (now (corrected .entry)) ⌝ }
-    ensures corrected { λ _. ⌜ now (corrected .exit) ≡ decodeCorrected q u (now (row .entry)) (now (work .entry)) (now (message .entry)) (now (corrected .entry)) ⌝ }
+    ensures corrected { λ _. ⌜ now (corrected .exit)
+        ≡ decodeCorrected q u (now (row .entry)) (now (work .entry)) (now (message .entry)) (now (corrected .entry)) ⌝ }
 {
     let answer = decode(q as usize, u as usize, row, work, message, corrected);
     results::of_decoding(answer)
@@ -71,7 +72,8 @@ pub extern "C" fn tape_verify(
     at: &mut u64,
 ) -> i64
     ensures result { λ r. ⌜ r ≡ verifyResult (verifyBytesAnswer (now (block .entry)) (now (payload .entry)) (now (records .entry)) (now (work .entry))) ⌝ }
-    ensures at { λ _. ⌜ now (at .exit) ≡ verifyAt (verifyBytesAnswer (now (block .entry)) (now (payload .entry)) (now (records .entry)) (now (work .entry))) (now (at .entry)) ⌝ }
+    ensures at { λ _. ⌜ now (at .exit)
+        ≡ verifyAt (verifyBytesAnswer (now (block .entry)) (now (payload .entry)) (now (records .entry)) (now (work .entry))) (now (at .entry)) ⌝ }
     ensures records { λ _. ⌜ now (records .exit) ≡ verifyBytesRecords (now (block .entry)) (now (payload .entry)) (now (records .entry)) (now (work .entry)) ⌝ }
     ensures work { λ _. ⌜ now (work .exit) ≡ verifyBytesWork (now (block .entry)) (now (payload .entry)) (now (records .entry)) (now (work .entry)) ⌝ }
 {

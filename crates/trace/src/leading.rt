@@ -46,7 +46,8 @@ pub fn put_step_line(
     requires { ⌜ Area q (length (now work)) ⌝ }
     requires { ⌜ (s < 1000) × (at + 40 ≤ length (now out)) ⌝ }
     requires { ⌜ Shown q s vote (now work) ⌝ }
-    ensures { λ r. ⌜ ((state : State (symbols q) q) → Starts q (now (work .entry)) (cellsOf q (state .polys)) → vote ≡ voteAt q s state → Wrote (now (out .entry)) at (stepLine q u s state) (now (out .exit)) r) ⌝ }
+    ensures { λ r. ⌜ ((state : State (symbols q) q) → Starts q (now (work .entry)) (cellsOf q (state .polys)) → vote ≡ voteAt q s state
+        → Wrote (now (out .entry)) at (stepLine q u s state) (now (out .exit)) r) ⌝ }
 {
     let mut degrees = [0u8; 8];
     read_degrees(work, q, &mut degrees);
