@@ -26,17 +26,6 @@ pub fn sum(a: u8, b: u8) -> u8
     a ^ b
 }
 
-pub fn product(q: usize, a: u8, b: u8) -> u8
-    requires { ⌜ Known q ⌝ }
-    ensures { λ r. ⌜ r ≡ number q (symbols q ._⊗_ (symbol q a) (symbol q b)) ⌝ }
-{
-    if q == 4 {
-        tables::PRODUCTS_4[(a % 16) as usize * 16 + (b % 16) as usize]
-    } else {
-        tables::PRODUCTS_2[(a % 4) as usize * 4 + (b % 4) as usize]
-    }
-}
-
 pub fn inverse(q: usize, a: u8) -> u8
     requires { ⌜ Known q ⌝ }
     ensures { λ r. ⌜ r ≡ number q (symbols q .inverse (symbol q a)) ⌝ }
@@ -87,18 +76,6 @@ fn sixteen_of(table: &[u8], start: usize) -> [u8; 16]
     ]
 }
 
-// The products of `a` by all symbols, for loops with one factor: place b holds the product by b.
-pub fn products_of(q: usize, a: u8) -> [u8; 16]
-    requires { ⌜ Known q ⌝ }
-    ensures { λ r. ⌜ r ≡ productRow q a ⌝ }
-{
-    if q == 4 {
-        sixteen_of(&tables::PRODUCTS_4, (a % 16) as usize * 16)
-    } else {
-        part_of(&tables::PRODUCTS_2, (a % 4) as usize * 4, 4)
-    }
-}
-
 // The table of q in the first places of a list, for callers that take many of its rows.
 pub fn table_of(q: usize) -> [u8; 256]
     requires { ⌜ Known q ⌝ }
@@ -115,7 +92,7 @@ pub fn table_of(q: usize) -> [u8; 256]
     table
 }
 
-// The products of `a` by all symbols, from such a list.
+// The products of `a` by all symbols, from such a list, for loops with one factor: place b holds the product by b.
 pub fn products_in(table: &[u8], q: usize, a: u8) -> [u8; 16]
     requires { ⌜ Known q × HasProducts q (now table) ⌝ }
     ensures { λ r. ⌜ r ≡ productRow q a ⌝ }
@@ -137,6 +114,22 @@ pub fn product_in(table: &[u8], q: usize, a: u8, b: u8) -> u8
     } else {
         table[(a % 4) as usize * 4 + (b % 4) as usize]
     }
+}
+
+// The product of two symbols, for a caller that takes only few.
+pub fn product(q: usize, a: u8, b: u8) -> u8
+    requires { ⌜ Known q ⌝ }
+    ensures { λ r. ⌜ r ≡ number q (symbols q ._⊗_ (symbol q a) (symbol q b)) ⌝ }
+{
+    product_in(&table_of(q), q, a, b)
+}
+
+// All products of `a`, for such a caller.
+pub fn products_of(q: usize, a: u8) -> [u8; 16]
+    requires { ⌜ Known q ⌝ }
+    ensures { λ r. ⌜ r ≡ productRow q a ⌝ }
+{
+    products_in(&table_of(q), q, a)
 }
 
 // The n-th power, by squaring; 0 to the power 0 is 1.
