@@ -20,8 +20,7 @@ use Rattle.decoder.specs.declared.Decoded.the-variants.{Accepted, Refused as De
 use Rattle.decoder.specs.Decoding.{countOf, voted, decoded}
 use Rattle.block.specs.Layout.{tapeQ, tapeU, rowCount, blockRow, payloadRow}
 use Rattle.lists.specs.Same.{sameList}
-use Rattle.block.specs.Verification.{outcome, rowRecord, verdictFrom, allRecords, verifyChecks, verifyAnswer}
-use Rattle.block.specs.Inside.{checksFor}
+use Rattle.block.specs.Verification.{checksFor, outcome, rowRecord, verdictFrom, allRecords, verifyChecks, verifyAnswer}
 use Rattle.block.specs.AsBytes.{byteChecks, verifyBytesAnswer}
 use Rattle.block.specs.Copy.{ReadAs, CopyOf}
 use Rattle.block.specs.declared.Record.{Record}

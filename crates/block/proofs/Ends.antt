@@ -12,9 +12,9 @@ use Rattle.refusals.specs.Numbers.{firstOf}
 use Rattle.published.specs.Picture.{areaSize}
 use Rattle.decoder.specs.Decoding.{cleared}
 use Rattle.block.specs.Layout.{tapeQ, rowCount}
-use Rattle.block.specs.Verification.{rowRecord, verdictFrom, allRecords, verifyChecks, verifyAnswer, verifyRecords}
+use Rattle.block.specs.Verification.{checksFor, rowRecord, verdictFrom, allRecords, verifyChecks, verifyAnswer, verifyRecords}
 use Rattle.block.specs.Verification.{verifyWork}
-use Rattle.block.specs.Inside.{checksFor, verdictBefore, rowsToRead}
+use Rattle.block.specs.Inside.{verdictBefore, rowsToRead}
 use Rattle.block.specs.AsBytes.{recordBytes, byteChecks, verifyBytesAnswer, verifyBytesRecords, verifyBytesWork}
 use Rattle.block.specs.declared.Record.{Record}
 use Rattle.block.specs.declared.Verified.{Verified}

@@ -18,8 +18,8 @@ use Rattle.lists.specs.Tables.{from, tab}
 use Rattle.published.specs.Picture.{areaSize}
 use Rattle.decoder.specs.Decoding.{cleared}
 use Rattle.block.specs.Layout.{tapeQ, rowCount}
-use Rattle.block.specs.Verification.{rowRecord, verdictFrom}
-use Rattle.block.specs.Inside.{checksFor, verdictBefore, rowsToRead, nextVerdict, totalOf}
+use Rattle.block.specs.Verification.{checksFor, rowRecord, verdictFrom}
+use Rattle.block.specs.Inside.{verdictBefore, rowsToRead, nextVerdict, totalOf}
 use Rattle.block.specs.declared.Record.{Record}
 use Rattle.block.specs.declared.Verified.{Verified}
 use Rattle.block.specs.declared.Verified.the-variants.{Copied, Differs, Unreadable, Refused}

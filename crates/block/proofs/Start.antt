@@ -11,7 +11,8 @@ use Rattle.refusals.specs.declared.Refusal.the-variants.{ShortWork, BadBlock, W
 use Rattle.refusals.proofs.Checks.{here, later, Passes, done, clear, refused, passed}
 use Rattle.published.specs.Picture.{areaSize}
 use Rattle.block.specs.Layout.{tapeQ, tapeU, fourBytes, rowCount, isBlock}
-use Rattle.block.specs.Inside.{checksFor, verdictBefore}
+use Rattle.block.specs.Verification.{checksFor}
+use Rattle.block.specs.Inside.{verdictBefore}
 use Rattle.block.specs.declared.Verified.the-variants.{Copied, Refused}
 
 -- the verdict before any row is read: each check by its number, and that none holds

@@ -1,18 +1,15 @@
--- What the functions inside verifying answer: the record of a row's own bytes, the checks by how much is lent, and the
--- verdict before the first row and after each. Document 01, "Block and verification".
+-- What the functions inside verifying answer: the record of a row's own bytes, and the verdict before the first row and after
+-- each. Document 01, "Block and verification".
 -- Assumes nothing.
-use mathlib.Core.Bool.{true, false, not}
-use mathlib.Core.List.{List, [], _∷_}
-use Prim.Native.Nat.{ℕ, _+_, _*_}
-use lib.Dec.{eqb, ltb}
-use lib.ListN.{length}
-use Rattle.refusals.specs.declared.Refusal.the-variants.{ShortWork, BadBlock, WrongPayload, FewRecords}
-use Rattle.refusals.specs.Numbers.{Check, _if_, firstOf}
-use Rattle.published.specs.Picture.{areaSize}
+use mathlib.Core.Bool.{true, false}
+use mathlib.Core.List.{List}
+use Prim.Native.Nat.{ℕ, _+_}
+use lib.Dec.{eqb}
+use Rattle.refusals.specs.Numbers.{firstOf}
 use Rattle.decoder.specs.Decoding.{voted, decoded}
-use Rattle.block.specs.Layout.{tapeQ, tapeU, rowLength, messageLength, rowCount, isBlock, unpacked}
+use Rattle.block.specs.Layout.{tapeQ, tapeU, rowLength, messageLength, unpacked}
 use Rattle.lists.specs.Same.{sameList}
-use Rattle.block.specs.Verification.{outcome}
+use Rattle.block.specs.Verification.{checksFor, outcome}
 use Rattle.block.specs.declared.Record.{Record}
 use Rattle.block.specs.declared.Verified.{Verified}
 use Rattle.block.specs.declared.Verified.the-variants.{Copied, Differs, Unreadable, Refused}
@@ -23,15 +20,6 @@ unfoldable pub packedRecord : List ℕ → List ℕ → Record
 packedRecord row original =
     let symbols = unpacked row rowLength in
     outcome (decoded tapeQ tapeU symbols) (sameList (voted tapeQ tapeU symbols) (unpacked original messageLength))
-
--- "verify checks 9, 10, 11, 6", where so many records and so many places of work are lent
-unfoldable pub checksFor : List ℕ → List ℕ → ℕ → ℕ → List Check
-checksFor block payload records work =
-    (BadBlock if not (isBlock block))
-    ∷ (WrongPayload if not (eqb (length payload) (20 * rowCount block)))
-    ∷ (FewRecords if ltb records (rowCount block))
-    ∷ (ShortWork if ltb work (areaSize tapeQ))
-    ∷ []
 
 -- "The first that holds is given": the verdict before any row is read
 unfoldable pub verdictBefore : List ℕ → List ℕ → ℕ → ℕ → Verified

@@ -44,14 +44,17 @@ verdictFrom r total (x ∷ xs) =
 unfoldable pub allRecords : List ℕ → List ℕ → List Record
 allRecords block payload = tab (rowCount block) (rowRecord block payload)
 
--- "verify checks 9, 10, 11, 6"
-unfoldable pub verifyChecks : List ℕ → List ℕ → List Record → List ℕ → List Check
-verifyChecks block payload records work =
+-- "verify checks 9, 10, 11, 6", where so many records and so many places of work are lent
+unfoldable pub checksFor : List ℕ → List ℕ → ℕ → ℕ → List Check
+checksFor block payload records work =
     (BadBlock if not (isBlock block))
     ∷ (WrongPayload if not (eqb (length payload) (20 * rowCount block)))
-    ∷ (FewRecords if ltb (length records) (rowCount block))
-    ∷ (ShortWork if ltb (length work) (areaSize tapeQ))
+    ∷ (FewRecords if ltb records (rowCount block))
+    ∷ (ShortWork if ltb work (areaSize tapeQ))
     ∷ []
+
+unfoldable pub verifyChecks : List ℕ → List ℕ → List Record → List ℕ → List Check
+verifyChecks block payload records work = checksFor block payload (length records) (length work)
 
 unfoldable pub verifyAnswer : List ℕ → List ℕ → List Record → List ℕ → Verified
 verifyAnswer block payload records work =
