@@ -60,7 +60,7 @@ enum tape_refusal {
     TAPE_SHORT_OUTPUT = 7,   /* an output too short */
     TAPE_BEYOND_REACH = 8,   /* more places differ than the reach */
     TAPE_BAD_BLOCK = 9,      /* block header or total length not as tape_verify says */
-    TAPE_WRONG_PAYLOAD = 10, /* payload not TAPE_PAYLOAD_BYTES for each row */
+    TAPE_WRONG_PAYLOAD = 10, /* payload not TAPE_PAYLOAD_BYTES for each row; for tape_write, of 1 to TAPE_MOST_ROWS rows */
     TAPE_FEW_RECORDS = 11    /* fewer records than rows */
 };
 
@@ -102,6 +102,16 @@ int64_t tape_stop(uint64_t q, uint64_t u, uint64_t steps, const uint8_t *row, si
  */
 int64_t tape_decode(uint64_t q, uint64_t u, const uint8_t *row, size_t row_len, uint8_t *work, size_t work_len,
                     uint8_t *message, size_t message_len, uint8_t *corrected, size_t corrected_len);
+
+/*
+ * Writes the block of a payload: the header, then for each TAPE_PAYLOAD_BYTES of the payload the packed row of their message.
+ * What tape_verify says of a block holds of it, and as long as no byte of it changes, tape_verify of it against the same
+ * payload answers TAPE_COPIED with 0 in *at, and each record is TAPE_ROW_EQUAL and 0.
+ * Answers how many bytes the block has: TAPE_HEADER_BYTES, and TAPE_ROW_BYTES for each row. The area may be longer.
+ * Refuses with 10 (the payload is empty, not a multiple of TAPE_PAYLOAD_BYTES, or more than TAPE_MOST_ROWS rows), then 7 (the
+ * area is shorter than the block).
+ */
+int64_t tape_write(const uint8_t *payload, size_t payload_len, uint8_t *block, size_t block_len);
 
 /*
  * Decodes each row of a block and compares its message with the row's part of the payload. A block is, big-endian: 4 bytes

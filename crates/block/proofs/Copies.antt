@@ -18,16 +18,17 @@ use Rattle.lists.proofs.Same.{same-lists}
 use Rattle.decoder.specs.declared.Decoded.{Decoded}
 use Rattle.decoder.specs.declared.Decoded.the-variants.{Accepted, Refused as Declined}
 use Rattle.decoder.specs.Decoding.{countOf, voted, decoded}
-use Rattle.block.specs.Layout.{tapeQ, tapeU, rowCount, blockRow, payloadRow}
+use Rattle.layout.specs.Layout.{tapeQ, tapeU, rowCount, blockRow, payloadRow}
 use Rattle.lists.specs.Same.{sameList}
-use Rattle.block.specs.Verification.{checksFor, outcome, rowRecord, verdictFrom, allRecords, verifyChecks, verifyAnswer}
+use Rattle.taperow.specs.Reading.{outcome, rowRecord}
+use Rattle.block.specs.Verification.{checksFor, verdictFrom, allRecords, verifyChecks, verifyAnswer}
 use Rattle.block.specs.AsBytes.{byteChecks, verifyBytesAnswer}
 use Rattle.block.specs.Copy.{ReadAs, CopyOf}
-use Rattle.block.specs.declared.Record.{Record}
+use Rattle.taperow.specs.declared.Record.{Record}
 use Rattle.block.specs.declared.Verified.{Verified}
 use Rattle.block.specs.declared.Verified.the-variants.{Copied, Refused}
 use Rattle.block.proofs.Verdicts.{byState}
-use Rattle.block.proofs.Outcomes.{accepted-within}
+use Rattle.taperow.proofs.Outcomes.{accepted-within}
 
 -- only an acceptance of the same message has state 0
 state-equal : (answer : Decoded) (equal : Bool) → outcome answer equal .state ≡ 0

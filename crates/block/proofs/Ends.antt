@@ -11,12 +11,13 @@ use Rattle.lists.proofs.Tables.{length-tab, tab-more}
 use Rattle.refusals.specs.Numbers.{firstOf}
 use Rattle.published.specs.Picture.{areaSize}
 use Rattle.decoder.specs.Decoding.{cleared}
-use Rattle.block.specs.Layout.{tapeQ, rowCount}
-use Rattle.block.specs.Verification.{checksFor, rowRecord, verdictFrom, allRecords, verifyChecks, verifyAnswer, verifyRecords}
+use Rattle.layout.specs.Layout.{tapeQ, rowCount}
+use Rattle.taperow.specs.Reading.{rowRecord}
+use Rattle.block.specs.Verification.{checksFor, verdictFrom, allRecords, verifyChecks, verifyAnswer, verifyRecords}
 use Rattle.block.specs.Verification.{verifyWork}
 use Rattle.block.specs.Inside.{verdictBefore, rowsToRead}
 use Rattle.block.specs.AsBytes.{recordBytes, byteChecks, verifyBytesAnswer, verifyBytesRecords, verifyBytesWork}
-use Rattle.block.specs.declared.Record.{Record}
+use Rattle.taperow.specs.declared.Record.{Record}
 use Rattle.block.specs.declared.Verified.{Verified}
 use Rattle.block.specs.declared.Verified.the-variants.{Refused}
 use Rattle.block.proofs.Rounds.{worked, after, after-all, rowsRead, ends-in}

@@ -1,12 +1,11 @@
-pub mod Filled
-pub mod Reading
-pub mod Same
 pub mod Verdicts
-pub mod Tape
-pub mod Outcomes
 pub mod Start
 pub mod Rounds
 pub mod Ends
 pub mod Again
 pub mod Copies
+pub mod CodeRows
+pub mod Unchanged
+pub mod PayloadBack
+pub mod Writes
 pub mod Settled

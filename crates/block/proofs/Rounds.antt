@@ -17,15 +17,16 @@ use Rattle.refusals.proofs.Checks.{Refuses, Passes, refused, passed, decideChec
 use Rattle.lists.specs.Tables.{from, tab}
 use Rattle.published.specs.Picture.{areaSize}
 use Rattle.decoder.specs.Decoding.{cleared}
-use Rattle.block.specs.Layout.{tapeQ, rowCount}
-use Rattle.block.specs.Verification.{checksFor, rowRecord, verdictFrom}
+use Rattle.layout.specs.Layout.{tapeQ, rowCount}
+use Rattle.taperow.specs.Reading.{rowRecord}
+use Rattle.block.specs.Verification.{checksFor, verdictFrom}
 use Rattle.block.specs.Inside.{verdictBefore, rowsToRead, nextVerdict, totalOf}
-use Rattle.block.specs.declared.Record.{Record}
+use Rattle.taperow.specs.declared.Record.{Record}
 use Rattle.block.specs.declared.Verified.{Verified}
 use Rattle.block.specs.declared.Verified.the-variants.{Copied, Differs, Unreadable, Refused}
 use Rattle.block.proofs.Verdicts.{byState}
 use Rattle.block.proofs.Start.{fit}
-use Rattle.block.proofs.Outcomes.{row-count-small}
+use Rattle.taperow.proofs.Outcomes.{row-count-small}
 
 -- the work area after k rows: the first row clears its part, and it stays so
 unfoldable pub worked : ℕ → List ℕ → List ℕ

@@ -4,10 +4,12 @@ use mathlib.Core.Path.{_≡_, sym, _∙_}
 use mathlib.Core.List.{List}
 use Prim.Native.Nat.{ℕ}
 use lib.ListN.{length}
-use Rattle.block.specs.declared.Record.{Record}
+use Rattle.taperow.specs.declared.Record.{Record}
 use Rattle.block.specs.declared.Verified.{Verified}
 use Rattle.block.specs.Verification.{verifyChecks, verifyAnswer, verifyRecords, verifyWork}
 use Rattle.block.specs.AsBytes.{byteChecks, verifyBytesAnswer, verifyBytesRecords, verifyBytesWork}
+use Rattle.block.specs.declared.Written.{Written}
+use Rattle.block.specs.Writing.{writeChecks, writeAnswer, writeBlock}
 
 -- all that is said of a call of `verify`
 pub record Verifies (block payload : List ℕ) (records : List Record) (work : List ℕ) (answer : Verified) (records′ : List Record) (work′ : List ℕ) : Type 0 where
@@ -47,3 +49,19 @@ pub bytes-answer-by-lengths : (block payload records records′ work work′ : L
     → verifyBytesAnswer block payload records work ≡ verifyBytesAnswer block payload records′ work′
 unfolding verifyBytesAnswer byteChecks
 bytes-answer-by-lengths block payload records records′ work work′ e f = rw (e, f)
+
+-- all that is said of a call of `write`
+pub record Writes (payload block : List ℕ) (answer : Written) (block′ : List ℕ) : Type 0 where
+  pub answer-is : answer ≡ writeAnswer payload block
+  pub block-is : block′ ≡ writeBlock payload block
+
+-- two results of writing
+pub write-settled : (payload block : List ℕ) {answer answer′ : Written} {block₁ block₂ : List ℕ}
+    → Writes payload block answer block₁ → Writes payload block answer′ block₂ → (answer ≡ answer′) × (block₁ ≡ block₂)
+write-settled payload block P P′ = (P .answer-is ∙ sym (P′ .answer-is), P .block-is ∙ sym (P′ .block-is))
+
+-- of the area only the length counts
+pub write-answer-by-length : (payload block block′ : List ℕ) → length block ≡ length block′
+    → writeAnswer payload block ≡ writeAnswer payload block′
+unfolding writeAnswer writeChecks
+write-answer-by-length payload block block′ e = rw e

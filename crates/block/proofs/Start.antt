@@ -1,16 +1,16 @@
 -- The verdict before the first row, check by check; and what is known where no check holds.
 -- Assumes nothing.
 use mathlib.Core.Path.{_≡_, sym, ap}
-use mathlib.Core.Bool.{Bool, true, false, not, _&&_, and-eq-true-iff}
+use mathlib.Core.Bool.{true, false, not}
 use mathlib.Core.List.{List}
 use Prim.Native.Nat.{ℕ, _+_, _*_, _≤_, _<_}
-use lib.Dec.{leb, eqb}
-use lib.ListN.{length, getD}
-use borrow.Author.Tests.{eq-eqb, ne-eqb, le-ltb, lt-ltb, eqb-true, leb-true, ltb-false, not-false}
+use lib.ListN.{length}
+use borrow.Author.Tests.{eq-eqb, ne-eqb, le-ltb, lt-ltb, eqb-true, ltb-false, not-false}
 use Rattle.refusals.specs.declared.Refusal.the-variants.{ShortWork, BadBlock, WrongPayload, FewRecords}
 use Rattle.refusals.proofs.Checks.{here, later, Passes, done, clear, refused, passed}
 use Rattle.published.specs.Picture.{areaSize}
-use Rattle.block.specs.Layout.{tapeQ, tapeU, fourBytes, rowCount, isBlock}
+use Rattle.layout.specs.Layout.{tapeQ, rowCount, isBlock}
+use Rattle.layout.proofs.Headers.{sized}
 use Rattle.block.specs.Verification.{checksFor}
 use Rattle.block.specs.Inside.{verdictBefore}
 use Rattle.block.specs.declared.Verified.the-variants.{Copied, Refused}
@@ -63,35 +63,16 @@ pub record Fit (block payload : List ℕ) (records work : ℕ) : Type 0 where
   pub enough : rowCount block ≤ records
   pub room : areaSize tapeQ ≤ work
 
--- the first and the last two of six
-of-six : (a b c d e f : Bool) → (a && (b && (c && (d && (e && f))))) ≡ true → (a ≡ true) × (e ≡ true) × (f ≡ true)
-of-six a b c d e f is =
-    let one = and-eq-true-iff a (b && (c && (d && (e && f)))) .0 is in
-    let two = and-eq-true-iff b (c && (d && (e && f))) .0 (one .1) in
-    let three = and-eq-true-iff c (d && (e && f)) .0 (two .1) in
-    let four = and-eq-true-iff d (e && f) .0 (three .1) in
-    let five = and-eq-true-iff e f .0 (four .1) in
-    (one .0, five .0, five .1)
-
 -- no check holds
 pub fit : (block payload : List ℕ) (records work : ℕ) → Passes (checksFor block payload records work)
     → Fit block payload records work
-unfolding checksFor isBlock
+unfolding checksFor
 fit block payload records work (clear header (clear messages (clear enough (clear room done)))) =
-    let tests =
-    of-six
-    (eqb (length block) (8 + 32 * rowCount block))
-    (eqb (fourBytes block 0) (4 + 32 * rowCount block))
-    (eqb (getD block 4 0) 1)
-    (eqb (getD block 5 0) tapeU)
-    (leb 1 (rowCount block))
-    (leb (rowCount block) 1024)
-    (not-false _ header)
-    in
+    let known = sized block (not-false _ header) in
     record {
-      rows = eqb-true _ _ (tests .0);
-      some = leb-true _ _ (tests .1);
-      most = leb-true _ _ (tests .2);
+      rows = known .rows;
+      some = known .some;
+      most = known .most;
       messages = eqb-true _ _ (not-false _ messages);
       enough = ltb-false _ _ enough;
       room = ltb-false _ _ room;

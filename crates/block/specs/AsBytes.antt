@@ -6,9 +6,9 @@ use lib.ListN.{length, drop}
 use Rattle.refusals.specs.Numbers.{Check, firstOf}
 use Rattle.published.specs.Picture.{areaSize}
 use Rattle.decoder.specs.Decoding.{cleared}
-use Rattle.block.specs.Layout.{tapeQ, rowCount}
+use Rattle.layout.specs.Layout.{tapeQ, rowCount}
 use Rattle.block.specs.Verification.{checksFor, verdictFrom, allRecords}
-use Rattle.block.specs.declared.Record.{Record}
+use Rattle.taperow.specs.declared.Record.{Record}
 use Rattle.block.specs.declared.Verified.{Verified}
 use Rattle.block.specs.declared.Verified.the-variants.{Refused}
 

@@ -7,7 +7,7 @@ use Prim.Native.Nat.{ℕ, _*_, _≤_, _<_}
 use lib.ListN.{length}
 use Rattle.decoder.specs.declared.Decoded.the-variants.{Accepted}
 use Rattle.decoder.specs.Decoding.{countOf, voted, decoded}
-use Rattle.block.specs.Layout.{tapeQ, tapeU, rowCount, isBlock, blockRow, payloadRow}
+use Rattle.layout.specs.Layout.{tapeQ, tapeU, rowCount, isBlock, blockRow, payloadRow}
 
 -- the row decodes within reach to exactly this message: it is accepted with the votes for its message, and at most 9 of its
 -- places are not as in the message's row

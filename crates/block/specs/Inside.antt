@@ -1,5 +1,4 @@
--- What the functions inside verifying answer: the record of a row's own bytes, and the verdict before the first row and after
--- each. Document 01, "Block and verification".
+-- What the functions inside verifying answer: the verdict before the first row and after each. Document 01, "Block and verification".
 -- Assumes nothing.
 use mathlib.Core.Bool.{true, false}
 use mathlib.Core.List.{List}
@@ -7,19 +6,14 @@ use Prim.Native.Nat.{ℕ, _+_}
 use lib.Dec.{eqb}
 use Rattle.refusals.specs.Numbers.{firstOf}
 use Rattle.decoder.specs.Decoding.{voted, decoded}
-use Rattle.block.specs.Layout.{tapeQ, tapeU, rowLength, messageLength, unpacked}
+use Rattle.layout.specs.Packing.{unpacked}
+use Rattle.layout.specs.Layout.{tapeQ, tapeU, rowLength, messageLength}
 use Rattle.lists.specs.Same.{sameList}
-use Rattle.block.specs.Verification.{checksFor, outcome}
-use Rattle.block.specs.declared.Record.{Record}
+use Rattle.taperow.specs.Reading.{outcome}
+use Rattle.block.specs.Verification.{checksFor}
+use Rattle.taperow.specs.declared.Record.{Record}
 use Rattle.block.specs.declared.Verified.{Verified}
 use Rattle.block.specs.declared.Verified.the-variants.{Copied, Differs, Unreadable, Refused}
-
--- "for each row a row's answer is taken apart first": the record of a row's 32 bytes and its payload's 20, read where they
--- stand
-unfoldable pub packedRecord : List ℕ → List ℕ → Record
-packedRecord row original =
-    let symbols = unpacked row rowLength in
-    outcome (decoded tapeQ tapeU symbols) (sameList (voted tapeQ tapeU symbols) (unpacked original messageLength))
 
 -- "The first that holds is given": the verdict before any row is read
 unfoldable pub verdictBefore : List ℕ → List ℕ → ℕ → ℕ → Verified

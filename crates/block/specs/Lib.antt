@@ -1,5 +1,6 @@
-pub mod Layout
 pub mod Verification
 pub mod Inside
 pub mod AsBytes
 pub mod Copy
+pub mod Writing
+pub mod Untouched

@@ -1,6 +1,6 @@
 -- What verifying a block answers and leaves, for all inputs. Document 01, "Block and verification" and "Refusal numbers".
 -- Assumes nothing.
-use mathlib.Core.Bool.{Bool, true, false, not}
+use mathlib.Core.Bool.{true, false, not}
 use mathlib.Core.List.{List, [], _∷_, _++_}
 use Prim.Native.Nat.{ℕ, suc, _+_, _*_}
 use lib.Dec.{eqb, ltb}
@@ -8,27 +8,13 @@ use lib.ListN.{length, drop}
 use Rattle.refusals.specs.declared.Refusal.the-variants.{ShortWork, BadBlock, WrongPayload, FewRecords}
 use Rattle.refusals.specs.Numbers.{Check, _if_, firstOf}
 use Rattle.lists.specs.Tables.{tab}
-use Rattle.lists.specs.Same.{sameList}
 use Rattle.published.specs.Picture.{areaSize}
-use Rattle.decoder.specs.declared.Decoded.{Decoded}
-use Rattle.decoder.specs.declared.Decoded.the-variants.{Accepted, Refused as Declined}
-use Rattle.decoder.specs.Decoding.{voted, decoded, cleared}
-use Rattle.block.specs.Layout.{tapeQ, tapeU, rowCount, isBlock, blockRow, payloadRow}
-use Rattle.block.specs.declared.Record.{Record}
+use Rattle.decoder.specs.Decoding.{cleared}
+use Rattle.layout.specs.Layout.{tapeQ, rowCount, isBlock}
+use Rattle.taperow.specs.declared.Record.{Record}
+use Rattle.taperow.specs.Reading.{rowRecord}
 use Rattle.block.specs.declared.Verified.{Verified}
 use Rattle.block.specs.declared.Verified.the-variants.{Copied, Differs, Unreadable, Refused}
-
--- "state 0 equal, 1 accepted but other message, 2 unreadable; and the count (0 when unreadable)"
-unfoldable pub outcome : Decoded → Bool → Record
-outcome (Accepted count) equal = elim equal [ true ↦ record { state = 0; count = count } | false ↦ record { state = 1; count = count } ]
-outcome (Declined why) equal = record { state = 2; count = 0 }
-
--- the record of row r: "for each row a row's answer is taken apart first; anything but an acceptance ends that row's
--- comparison"
-unfoldable pub rowRecord : List ℕ → List ℕ → ℕ → Record
-rowRecord block payload r =
-    let row = blockRow block r in
-    outcome (decoded tapeQ tapeU row) (sameList (voted tapeQ tapeU row) (payloadRow payload r))
 
 -- "The answer names the first row not in state 0 as Differs or Unreadable; if there is none, Copied with the sum of counts."
 -- Rows from r on, after rows in state 0 whose counts add up to `total`

@@ -1,33 +1,26 @@
-// Blocks: when is a copy a copy?
-mod header; // header.rt: the 8 bytes before the rows
-mod unpacking; // unpacking.rt: two symbols from each byte, and symbols compared
-mod row; // row.rt: the record of one row
+// Blocks: a payload becomes a block, and when is a copy a copy?
 mod verdict; // verdict.rt: the verdict before the first row and after each
+mod writing; // writing.rt: whether a payload can be written
 
+pub use taperow::Record;
 ghost use mathlib.Core.Path.{_≡_};
 ghost use Prim.Native.Nat.{ℕ};
+ghost use lib.ListN.{take};
 ghost use Rattle.block.specs.declared.Verified.the-variants.{Copied};
 ghost use Rattle.block.specs.Copy.{CopyOf};
 ghost use Rattle.block.specs.Verification.{verifyAnswer, verifyRecords, verifyWork};
 ghost use Rattle.block.specs.AsBytes.{verifyBytesAnswer, verifyBytesRecords, verifyBytesWork};
+ghost use Rattle.block.specs.declared.Written.the-variants.{Length};
+ghost use Rattle.block.specs.Writing.{writeAnswer, writeBlock};
+ghost use Rattle.block.specs.Untouched.{Untouched};
+use layout::put_header;
 use refusals::Refusal;
-use row::row_record;
+use taperow::lay_row;
+use taperow::row_record;
 use verdict::next_verdict;
 use verdict::rows_to_read;
 use verdict::verdict_before;
-
-// The states of a row.
-pub const EQUAL: u8 = 0;
-
-pub const OTHER_MESSAGE: u8 = 1;
-
-pub const UNREADABLE: u8 = 2;
-
-// The outcome of one row: its state; and the count, 0 when unreadable.
-pub struct Record {
-    pub state: u8,
-    pub count: u8,
-}
+use writing::is_payload;
 
 // What verifying a block answers.
 pub enum Verified {
@@ -37,6 +30,36 @@ pub enum Verified {
     Differs(usize),
     Unreadable(usize),
     Refused(Refusal),
+}
+
+// What writing a block answers.
+pub enum Written {
+    // the block's length in bytes
+    Length(usize),
+    Refused(Refusal),
+}
+
+// Writes the block of a payload: its header and rows to the first bytes of the area, and no byte behind them.
+pub fn write(payload: &[u8], block: &mut [u8]) -> Written
+    ensures answered { λ w. ⌜ w ≡ writeAnswer (now (payload .entry)) (now (block .entry)) ⌝ }
+    ensures block_left { λ _. ⌜ now (block .exit) ≡ writeBlock (now (payload .entry)) (now (block .entry)) ⌝ }
+    ensures untouched { λ w. ⌜ ((n : ℕ) → w ≡ Length n → Untouched (take n (now (block .exit))) (now (payload .entry))) ⌝ }
+{
+    if !is_payload(payload) {
+        return Written::Refused(Refusal::WrongPayload);
+    }
+    let rows = payload.len() / 20;
+    let size = 8 + 32 * rows;
+    if block.len() < size {
+        return Written::Refused(Refusal::ShortOutput);
+    }
+    put_header(rows, block);
+    let mut r = 0;
+    while r < rows {
+        lay_row(payload, r, block);
+        r += 1;
+    }
+    Written::Length(size)
 }
 
 // Verifies a block against its payload.

@@ -1,13 +1,13 @@
 // The verdict on a block, made row by row: before the first row it is a refusal or that nothing differs so far.
 ghost use mathlib.Core.Path.{_≡_};
 ghost use Prim.Native.Nat.{_+_, _<_, _^_};
-ghost use Rattle.block.specs.Layout.{rowCount};
+ghost use Rattle.layout.specs.Layout.{rowCount};
 ghost use Rattle.block.specs.Inside.{verdictBefore, rowsToRead, nextVerdict, totalOf};
-use crate::Record;
 use crate::Verified;
-use crate::header::is_block;
-use crate::header::row_count;
+use layout::is_block;
+use layout::row_count;
 use refusals::Refusal;
+use taperow::Record;
 
 // The verdict before any row is read, where so many records and so many places of work are lent.
 pub fn verdict_before(block: &[u8], payload: &[u8], records: usize, work: usize) -> Verified

@@ -16,10 +16,11 @@ use Rattle.lines.proofs.Writing.{wrote-more}
 use Rattle.refusals.specs.declared.Refusal.{Refusal}
 use Rattle.refusals.specs.Numbers.{Check, firstOf}
 use Rattle.refusals.proofs.Checks.{Refuses, Passes, refused, passed, decideChecks}
-use Rattle.block.specs.Layout.{rowCount}
-use Rattle.block.specs.Verification.{rowRecord, verdictFrom, allRecords}
+use Rattle.layout.specs.Layout.{rowCount}
+use Rattle.taperow.specs.Reading.{rowRecord}
+use Rattle.block.specs.Verification.{verdictFrom, allRecords}
 use Rattle.block.specs.AsBytes.{byteChecks, verifyBytesAnswer, verifyBytesRecords}
-use Rattle.block.specs.declared.Record.{Record}
+use Rattle.taperow.specs.declared.Record.{Record}
 use Rattle.block.proofs.Verdicts.{byState}
 use Rattle.block.proofs.Start.{fit}
 use Rattle.block.specs.declared.Verified.{Verified}

@@ -1,5 +1,5 @@
--- What blockcheck prints for a block and its payload: "one line for each row that is not in state 0 or has a count above 0,
--- and one last line: copied TOTAL, differs ROW, unreadable ROW or refuse N".
+-- What blockcheck prints for a block and its payload: a line for each row that has something to tell, and a last line with the
+-- verdict. And what blockwrite prints.
 -- Assumes nothing.
 use mathlib.Core.Bool.{Bool, true, false, not, _&&_}
 use mathlib.Core.List.{List, [], _∷_, _++_}
@@ -9,12 +9,15 @@ use lib.ListN.{getD, replicate}
 use Rattle.lists.specs.Tables.{join}
 use Rattle.lines.specs.Text.{ascii, digits}
 use Rattle.refusals.specs.Numbers.{refusalNumber, firstOf}
-use Rattle.block.specs.Layout.{rowCount}
-use Rattle.block.specs.Verification.{rowRecord, verdictFrom, allRecords}
+use Rattle.layout.specs.Layout.{rowCount}
+use Rattle.taperow.specs.Reading.{rowRecord}
+use Rattle.block.specs.Verification.{verdictFrom, allRecords}
 use Rattle.block.specs.AsBytes.{byteChecks}
-use Rattle.block.specs.declared.Record.{Record}
+use Rattle.taperow.specs.declared.Record.{Record}
 use Rattle.block.specs.declared.Verified.{Verified}
 use Rattle.block.specs.declared.Verified.the-variants.{Copied, Differs, Unreadable, Refused}
+use Rattle.block.specs.declared.Written.{Written}
+use Rattle.block.specs.declared.Written.the-variants.{Length, Refused as Unwritten}
 
 -- a row in state 0 with no count has nothing to tell
 unfoldable pub tells : ℕ → ℕ → Bool
@@ -55,3 +58,8 @@ unfoldable pub checkText : List ℕ → List ℕ → List ℕ
 checkText block payload =
     firstOf (byteChecks block payload (replicate 2048 0) (replicate 1472 0)) (λ why. verdictLine (Refused why))
     (rowLines (rowRecord block payload) (rowCount block) ++ verdictLine (verdictFrom 0 0 (allRecords block payload)))
+
+-- blockwrite's line
+unfoldable pub writtenLine : Written → List ℕ
+writtenLine (Length bytes) = ascii "wrote " ++ digits bytes ++ (10 ∷ [])
+writtenLine (Unwritten why) = ascii "refuse " ++ digits (refusalNumber why) ++ (10 ∷ [])

@@ -1,5 +1,6 @@
-// What blockcheck prints: a line for each row with something to tell, and the verdict.
+// What blockcheck prints: a line for each row with something to tell, and the verdict. And what blockwrite prints.
 use block::Verified;
+use block::Written;
 use block::verify_bytes;
 use lines::put_byte;
 use lines::put_number;
@@ -12,7 +13,7 @@ ghost use lib.ListN.{length};
 ghost use Rattle.io.specs.Counts.{Counts};
 ghost use Rattle.lines.specs.Text.{digits, Wrote};
 ghost use Rattle.lists.specs.Tables.{join};
-ghost use Rattle.blocktext.specs.Report.{tells, rowLine, lineAt, verdictLine, rowsTold, checkText};
+ghost use Rattle.blocktext.specs.Report.{tells, rowLine, lineAt, verdictLine, rowsTold, checkText, writtenLine};
 
 // A word and a number, which has at most 20 digits.
 fn put_piece(out: &mut [u8], at: usize, word: &[u8], n: usize) -> usize
@@ -118,4 +119,15 @@ pub fn verdict_text(verdict: Verified, out: &mut [u8; 32]) -> usize
     ensures within { λ r. ⌜ Counts r (now (out .exit)) ⌝ }
 {
     put_verdict(out, 0, verdict)
+}
+
+// The line on what writing answered; answers how many bytes it has.
+pub fn written_text(written: Written, out: &mut [u8; 32]) -> usize
+    ensures text { λ r. ⌜ Wrote (now (out .entry)) 0 (writtenLine written) (now (out .exit)) r ⌝ }
+    ensures within { λ r. ⌜ Counts r (now (out .exit)) ⌝ }
+{
+    match written {
+        Written::Length(bytes) => put_line(out, 0, b"wrote ", bytes),
+        Written::Refused(why) => put_line(out, 0, b"refuse ", number_of(why) as usize),
+    }
 }

@@ -4,3 +4,5 @@ pub mod Keep
 pub mod Put
 pub mod Grid
 pub mod Same
+pub mod Filled
+pub mod Pasted

@@ -6,7 +6,7 @@ use Prim.Native.Nat.{ℕ, zero, suc, _+_, _*_, _<_}
 use native.Mathlib.Nat.{suc-mul, zero-mul, not-suc-le-zero, zero-add, add-suc, suc-add, add-zero}
 use native.Mathlib.Numerals.{add-one}
 use native.Mathlib.Omega.{arith}
-use lib.ListN.{length, getD, length-append, List·getD-append}
+use lib.ListN.{length, getD, replicate, length-append, length-replicate, getD-replicate, List·getD-append}
 use lib.Seq.{ext-getD, getD-append-add}
 use Rattle.lists.specs.Tables.{from, tab, joinFrom, join}
 
@@ -53,6 +53,11 @@ module _ {ℓ} {A : Type ℓ} where
   -- a list is the table of its elements
   pub tab-of : (d : A) (l : List A) → l ≡ tab (length l) (λ k. getD l k d)
   tab-of d l = tab-is d (length l) (λ k. getD l k d) l refl (λ k b. refl)
+
+  -- a table of one element again and again
+  pub tab-const : (n : ℕ) (f : ℕ → A) (a : A) → ((k : ℕ) → k < n → f k ≡ a) → tab n f ≡ replicate n a
+  tab-const n f a h =
+      sym (tab-is a n f (replicate n a) (length-replicate n a) (λ k b. getD-replicate n k a a b ∙ sym (h k b)))
 
   -- tables that start at i, of functions that agree below their end
   from-same : (i n : ℕ) (f g : ℕ → A) → ((k : ℕ) → k < i + n → f k ≡ g k) → from i n f ≡ from i n g

@@ -12,6 +12,8 @@ use Rattle.decoder.specs.declared.Decoded.{Decoded}
 use Rattle.decoder.specs.declared.Decoded.the-variants.{Accepted, Refused as Declined}
 use Rattle.block.specs.declared.Verified.{Verified}
 use Rattle.block.specs.declared.Verified.the-variants.{Copied, Differs, Unreadable, Refused as Rejected}
+use Rattle.block.specs.declared.Written.{Written}
+use Rattle.block.specs.declared.Written.the-variants.{Length, Refused as Unwritten}
 
 -- a refusal is its number with a minus
 abbrev pub refusalResult : Refusal → ℤ
@@ -45,7 +47,17 @@ verifyAt (Differs row) old = row
 verifyAt (Unreadable row) old = row
 verifyAt (Rejected why) old = old
 
+-- a block that was written is its length
+abbrev pub writeResult : Written → ℤ
+writeResult (Length bytes) = pos bytes
+writeResult (Unwritten why) = refusalResult why
+
 -- the count of an acceptance is a number that the integer can hold
 abbrev pub CountFits : Decoded → Type 0
 CountFits (Accepted count) = count < 2 ^ 63
 CountFits (Declined why) = Unit {0}
+
+-- and so is the length of a block
+abbrev pub LengthFits : Written → Type 0
+LengthFits (Length bytes) = bytes < 2 ^ 63
+LengthFits (Unwritten why) = Unit {0}

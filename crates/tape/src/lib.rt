@@ -7,8 +7,10 @@ ghost use Rattle.encoder.specs.Encoding.{encodeAnswer, encodeOutput};
 ghost use Rattle.steps.specs.Stop.{stopAnswer, stopWork, stopOutput};
 ghost use Rattle.decoder.specs.Decoding.{decodeAnswer, decodeWork, decodeMessage, decodeCorrected};
 ghost use Rattle.block.specs.AsBytes.{verifyBytesAnswer, verifyBytesRecords, verifyBytesWork};
-ghost use Rattle.tape.specs.Results.{encodeResult, stopResult, decodeResult, verifyResult, verifyAt};
+ghost use Rattle.block.specs.Writing.{writeAnswer, writeBlock};
+ghost use Rattle.tape.specs.Results.{encodeResult, stopResult, decodeResult, verifyResult, verifyAt, writeResult};
 use block::verify_bytes;
+use block::write;
 use decoder::decode;
 use encoder::encode;
 use steps::stop;
@@ -59,6 +61,16 @@ pub extern "C" fn tape_decode(
 {
     let answer = decode(q as usize, u as usize, row, work, message, corrected);
     results::of_decoding(answer)
+}
+
+// Writes the block of a payload; its length in bytes, or minus a refusal's number.
+#[no_mangle]
+pub extern "C" fn tape_write(payload: &[u8], block: &mut [u8]) -> i64
+    ensures result { λ r. ⌜ r ≡ writeResult (writeAnswer (now (payload .entry)) (now (block .entry))) ⌝ }
+    ensures block { λ _. ⌜ now (block .exit) ≡ writeBlock (now (payload .entry)) (now (block .entry)) ⌝ }
+{
+    let answer = write(payload, block);
+    results::of_writing(answer)
 }
 
 // Compares a block with its payload, two bytes a record; 0 copied, 1 differs, 2 unreadable, or minus a refusal's number. The

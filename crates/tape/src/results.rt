@@ -8,9 +8,12 @@ ghost use Rattle.tape.specs.Results.{
   decodeResult,
   verifyResult,
   verifyAt,
+  writeResult,
   CountFits,
+  LengthFits,
 };
 use block::Verified;
+use block::Written;
 use decoder::Decoded;
 use encoder::Encoded;
 use refusals::Refusal;
@@ -73,5 +76,15 @@ pub fn place_of(answer: Verified, before: u64) -> u64
         Verified::Differs(row) => row as u64,
         Verified::Unreadable(row) => row as u64,
         Verified::Refused(_) => before,
+    }
+}
+
+pub fn of_writing(answer: Written) -> i64
+    requires { ⌜ LengthFits answer ⌝ }
+    ensures { λ r. ⌜ r ≡ writeResult answer ⌝ }
+{
+    match answer {
+        Written::Length(bytes) => bytes as i64,
+        Written::Refused(why) => of_refusal(why),
     }
 }

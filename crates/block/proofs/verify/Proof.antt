@@ -26,7 +26,7 @@ use denote.Triple.Statement.{Triple}
 use denote.Triple.Table.{entered, cited}
 use denote.Triple.Walked.{goes-none-slice, goes-slice, Walks, walked, walk-meets}
 use denote.Exit.{yes}
-use Rattle.block.proofs.Record as T
+use Rattle.taperow.proofs.Record as T
 use Rattle.block.proofs.verdict.verdict_before.Symbol as before-def
 use Rattle.block.proofs.verdict.verdict_before.Symbol.{name as #before}
 use Rattle.block.proofs.verdict.verdict_before.Met as before-thm
@@ -36,9 +36,9 @@ use Rattle.block.proofs.verdict.rows_to_read.Met as rows-thm
 use Rattle.block.proofs.verdict.next_verdict.Symbol as next-def
 use Rattle.block.proofs.verdict.next_verdict.Symbol.{name as #next}
 use Rattle.block.proofs.verdict.next_verdict.Met as next-thm
-use Rattle.block.proofs.row.row_record.Symbol as row-def
-use Rattle.block.proofs.row.row_record.Symbol.{name as #row}
-use Rattle.block.proofs.row.row_record.Met as row-thm
+use Rattle.taperow.proofs.row_record.Symbol as row-def
+use Rattle.taperow.proofs.row_record.Symbol.{name as #row}
+use Rattle.taperow.proofs.row_record.Met as row-thm
 use Rattle.block.proofs.verify.Key.{name as #verify}
 use Rattle.block.proofs.verify as f′
 use Rattle.block.proofs.verify.Statement as stated
@@ -143,7 +143,7 @@ verify-spec 𝓤 H 𝓜 𝓖 𝓡 =
     code.calls-block·verdict·verdict-before (before-thm.met 𝓤 H 𝓜 𝓖 𝓡))
     (cited 𝓤 H (Rows 𝓤 H (𝓖 .A) (𝓜 .mem) (𝓡 .run)) 𝓜 𝓡 code.env #rows rows-def.routine code.calls-block·verdict·rows-to-read
     (rows-thm.met 𝓤 H 𝓜 𝓖 𝓡))
-    (cited 𝓤 H (Row 𝓤 H (𝓖 .A) (𝓜 .mem) (𝓡 .run)) 𝓜 𝓡 code.env #row row-def.routine code.calls-block·row·row-record
+    (cited 𝓤 H (Row 𝓤 H (𝓖 .A) (𝓜 .mem) (𝓡 .run)) 𝓜 𝓡 code.env #row row-def.routine code.calls-taperow·row-record
     (row-thm.met 𝓤 H 𝓜 𝓖 𝓡))
     (cited 𝓤 H (Next 𝓤 H (𝓖 .A) (𝓜 .mem) (𝓡 .run)) 𝓜 𝓡 code.env #next next-def.routine code.calls-block·verdict·next-verdict
     (next-thm.met 𝓤 H 𝓜 𝓖 𝓡)))

@@ -9,7 +9,7 @@ use lib.ListN.{length, drop, length-set}
 use denote.Ref.{now}
 use borrow.Author.Needs.{needs}
 use Rattle.lists.specs.Tables.{from, tab}
-use Rattle.block.specs.Verification.{rowRecord}
+use Rattle.taperow.specs.Reading.{rowRecord}
 use Rattle.block.specs.AsBytes.{recordBytes}
 use Rattle.block.proofs.Rounds.{worked, worked-next, after, after-next, Ready, ready}
 use Rattle.block.proofs.Copies.{copied-bytes-is-a-copy}

@@ -6,8 +6,8 @@ use Prim.Native.Nat.{_*_}
 use lib.ListN.{length}
 use denote.Ref.{now}
 use borrow.Author.Tests.{not-true, not-false}
-use Rattle.block.specs.Layout.{rowCount, isBlock}
-use Rattle.block.proofs.Tape.{area-is}
+use Rattle.layout.specs.Layout.{rowCount, isBlock}
+use Rattle.taperow.proofs.Tape.{area-is}
 use Rattle.block.proofs.Start.{before-9, before-10, before-11, before-6, before-none}
 use borrow.Author.Needs.{needs}
 use Rattle.block.proofs.verdict.verdict_before.Statement.{statement}

@@ -28,10 +28,10 @@ use denote.Enum.Laws as EL
 use denote.Triple.Walked.{says}
 use Rattle.published.specs.Picture.{areaSize}
 use Rattle.block.specs.declared.Verified.{Verified}
-use Rattle.block.specs.Layout.{tapeQ}
+use Rattle.layout.specs.Layout.{tapeQ}
 use Rattle.block.specs.Inside.{totalOf}
-use Rattle.block.proofs.Record as T
-use Rattle.block.proofs.Record.Laws as T′
+use Rattle.taperow.proofs.Record as T
+use Rattle.taperow.proofs.Record.Laws as T′
 use Rattle.block.proofs.Verified as S
 use Rattle.block.proofs.Verified.Laws as S′
 use Rattle.block.proofs.verify.Proof.Ground.{Passed, Before, Rows, Row, Next, sb, sp, sw, xw, f, ws, vs, OB, OP}

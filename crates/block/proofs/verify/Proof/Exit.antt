@@ -25,16 +25,16 @@ use denote.Steps.{nothing}
 use denote.Struct.Laws as LL
 use denote.Enum.Laws as EL
 use denote.Triple.Walked.{ends-at}
-use Rattle.block.specs.declared.Record.{Record}
+use Rattle.taperow.specs.declared.Record.{Record}
 use Rattle.block.specs.declared.Verified.{Verified}
 use Rattle.block.specs.declared.Verified.the-variants.{Copied}
 use Rattle.block.specs.Verification.{verifyAnswer, verifyRecords, verifyWork}
 use Rattle.block.specs.Copy.{CopyOf}
-use Rattle.block.proofs.Record as T
-use Rattle.block.proofs.Record.Laws as T′
+use Rattle.taperow.proofs.Record as T
+use Rattle.taperow.proofs.Record.Laws as T′
 use Rattle.block.proofs.Verified as S
 use Rattle.block.proofs.Verified.Laws as S′
-use Rattle.block.proofs.Filled.{fill-length}
+use Rattle.lists.proofs.Filled.{fill-length}
 use Rattle.block.proofs.Rounds.{work-kept, rows-fit}
 use Rattle.block.proofs.Copies.{copied-is-a-copy}
 use Rattle.block.proofs.Ends.{verify-answer, verify-records, verify-work}

@@ -23,16 +23,16 @@ use denote.Triple.Statement.{Contract}
 use denote.Triple.Walked.{Stays, stay-none-slice, stay-slice, walkOf}
 use denote.Exit.{yes}
 use Rattle.lists.specs.Tables.{tab}
-use Rattle.block.specs.declared.Record.{Record}
+use Rattle.taperow.specs.declared.Record.{Record}
 use Rattle.block.specs.declared.Verified.{Verified}
-use Rattle.block.specs.Verification.{rowRecord}
+use Rattle.taperow.specs.Reading.{rowRecord}
 use Rattle.block.specs.Inside.{verdictBefore}
-use Rattle.block.proofs.Record as T
+use Rattle.taperow.proofs.Record as T
 use Rattle.block.proofs.Rounds.{worked, after, rowsRead}
 use Rattle.block.proofs.verdict.verdict_before as before
 use Rattle.block.proofs.verdict.rows_to_read as rows
 use Rattle.block.proofs.verdict.next_verdict as next
-use Rattle.block.proofs.row.row_record as row
+use Rattle.taperow.proofs.row_record as row
 use Rattle.block.proofs.verify as f′
 
 abbrev pub stayed : Stays (f′.ended .signature .params) (f′.ended .kept)

@@ -15,9 +15,9 @@ use mir.Val.{Val}
 use denote.Laws.{Is}
 use denote.Ref.{now}
 use Rattle.published.specs.Picture.{areaSize}
-use Rattle.block.specs.Layout.{tapeQ}
+use Rattle.layout.specs.Layout.{tapeQ}
 use Rattle.block.proofs.Verified as S
-use Rattle.block.proofs.Filled.{fill-length}
+use Rattle.lists.proofs.Filled.{fill-length}
 use Rattle.block.proofs.Rounds.{work-kept, Ready, ready, rows-fit}
 use Rattle.block.proofs.verify.Proof.Ground.{Passed, f, n, ys, ws, vs}
 

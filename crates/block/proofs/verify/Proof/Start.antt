@@ -30,20 +30,20 @@ use denote.Steps.{only, peeks, heard}
 use denote.Triple.Statement.{Triple}
 use denote.Triple.Call.{calls-at}
 use denote.Triple.Clauses.{ensured, Lasts, lasts}
-use Rattle.block.specs.declared.Record.{Record}
+use Rattle.taperow.specs.declared.Record.{Record}
 use Rattle.block.specs.declared.Verified.{Verified}
-use Rattle.block.proofs.Record as T
-use Rattle.block.proofs.Record.Laws as T′
+use Rattle.taperow.proofs.Record as T
+use Rattle.taperow.proofs.Record.Laws as T′
 use Rattle.block.proofs.Verified as S
 use Rattle.block.proofs.Verified.Laws as S′
-use Rattle.block.proofs.Filled.{fill-none}
+use Rattle.lists.proofs.Filled.{fill-none}
 use Rattle.block.proofs.Rounds.{worked-none, after-none}
 use Rattle.block.proofs.verdict.verdict_before as before
 use Rattle.block.proofs.verdict.verdict_before.Symbol.{name as #before}
 use Rattle.block.proofs.verdict.rows_to_read as rows
 use Rattle.block.proofs.verdict.rows_to_read.Symbol.{name as #rows}
 use Rattle.block.proofs.verdict.next_verdict.Symbol.{name as #next}
-use Rattle.block.proofs.row.row_record.Symbol.{name as #row}
+use Rattle.taperow.proofs.row_record.Symbol.{name as #row}
 use Rattle.block.proofs.verify.Code.Mir as code-mir
 use Rattle.block.proofs.verify.Proof.Ground.{Passed, word, sliceb, slicep, slicer, slicew, refe, slicee, Before, Rows}
 use Rattle.block.proofs.verify.Proof.Ground.{Row, Next, sb, sp, sr, sw, f, n, v₀, OB, OP, OW, a, vals, Post}

@@ -38,21 +38,21 @@ use denote.Triple.Call.{calls-at}
 use denote.Triple.Clauses.{ensured, Lasts, lasts}
 use Rattle.published.specs.Picture.{areaSize}
 use Rattle.decoder.specs.Decoding.{cleared}
-use Rattle.block.specs.declared.Record.{Record}
+use Rattle.taperow.specs.declared.Record.{Record}
 use Rattle.block.specs.declared.Verified.{Verified}
-use Rattle.block.specs.Layout.{tapeQ}
+use Rattle.layout.specs.Layout.{tapeQ}
 use Rattle.block.specs.Inside.{nextVerdict}
-use Rattle.block.proofs.Record as T
-use Rattle.block.proofs.Record.Laws as T′
+use Rattle.taperow.proofs.Record as T
+use Rattle.taperow.proofs.Record.Laws as T′
 use Rattle.block.proofs.Verified as S
 use Rattle.block.proofs.Verified.Laws as S′
 use Rattle.block.proofs.Again.{LentAgain, lends-again, comes-back}
-use Rattle.block.proofs.Filled.{fill-next}
+use Rattle.lists.proofs.Filled.{fill-next}
 use Rattle.block.proofs.Rounds.{worked-next, after-next}
 use Rattle.block.proofs.verdict.next_verdict as next
 use Rattle.block.proofs.verdict.next_verdict.Symbol.{name as #next}
-use Rattle.block.proofs.row.row_record as row
-use Rattle.block.proofs.row.row_record.Symbol.{name as #row}
+use Rattle.taperow.proofs.row_record as row
+use Rattle.taperow.proofs.row_record.Symbol.{name as #row}
 use Rattle.block.proofs.verify.Code.Mir as code-mir
 use Rattle.block.proofs.verify.Proof.Ground.{Passed, word, sliceb, slicep, slicer, slicew, refe, slicee, Row, Next, sb}
 use Rattle.block.proofs.verify.Proof.Ground.{sp, sr, sw, xw, f, n, ys, ws, v₀, vs, OB, OP, OW, Post}

@@ -38,13 +38,13 @@ use denote.Triple.Statement.{Triple}
 use denote.Triple.Call.{calls-at}
 use denote.Triple.Clauses.{ensured, Lasts, lasts}
 use denote.Triple.Walked.{says, ends-at}
-use Rattle.block.specs.declared.Record.{Record}
+use Rattle.taperow.specs.declared.Record.{Record}
 use Rattle.block.specs.declared.Verified.{Verified}
 use Rattle.block.specs.declared.Verified.the-variants.{Copied}
 use Rattle.block.specs.Copy.{CopyOf}
 use Rattle.block.specs.Verification.{verifyAnswer, verifyWork}
-use Rattle.block.proofs.Record as T
-use Rattle.block.proofs.Record.Laws as T′
+use Rattle.taperow.proofs.Record as T
+use Rattle.taperow.proofs.Record.Laws as T′
 use Rattle.block.proofs.Verified as S
 use Rattle.block.proofs.Verified.Laws as S′
 use Rattle.block.proofs.verify as ver

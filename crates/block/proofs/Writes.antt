@@ -1,0 +1,124 @@
+-- Writing a block, row by row: what stands in the area after the header and after each row; and what is promised of a call that
+-- is refused, and of one that is not.
+-- Assumes nothing.
+use mathlib.Core.Path.{_≡_, sym, ap, ap₂, _∙_}
+use mathlib.Core.Logic.{_⊎_, inl, inr}
+use mathlib.Core.Bool.{true}
+use mathlib.Core.List.{List, _++_}
+use Prim.Native.Nat.{ℕ, _+_, _*_, _≤_, _<_}
+use native.Mathlib.Omega.{arith}
+use lib.ListN.{length, getD, take, drop}
+use lib.Seq.{paste, take-at, take-all, drop-drop}
+use borrow.Author.Tests.{ltb-false, not-false}
+use Rattle.refusals.specs.declared.Refusal.{Refusal}
+use Rattle.refusals.proofs.Checks.{Refuses, Passes, done, clear, refused, passed, decideChecks}
+use Rattle.lists.proofs.Pasted.{over-next}
+use Rattle.layout.specs.Packing.{packed}
+use Rattle.layout.specs.Layout.{blockLength, headerOf, blockOf}
+use Rattle.layout.proofs.Headers.{behind-header}
+use Rattle.layout.proofs.Laying.{laid-length, laid-header, row-bytes}
+use Rattle.block.specs.declared.Written.{Written}
+use Rattle.block.specs.declared.Written.the-variants.{Length, Refused}
+use Rattle.taperow.specs.Laying.{codeRow}
+use Rattle.block.specs.Writing.{rowsFilled, isPayload, codeRows, writeChecks, writeAnswer, writeBlock}
+use Rattle.block.specs.Untouched.{Untouched}
+use Rattle.block.proofs.CodeRows.{fills, rows-count, row-is}
+use Rattle.block.proofs.Unchanged.{untouched}
+
+module _ (payload : List ℕ) where
+  -- the payload's block
+  abbrev whole : List ℕ
+  whole = blockOf (codeRows payload)
+
+  -- as long as its rows say
+  whole-length : length whole ≡ blockLength (rowsFilled payload)
+  whole-length = laid-length (codeRows payload) ∙ ap blockLength (rows-count payload)
+
+  -- what the area holds when its first n bytes are written
+  abbrev pub written : ℕ → List ℕ → List ℕ
+  written n area = take n whole ++ drop n area
+
+  -- once the header is written
+  module _ (area started : List ℕ) (is : started ≡ headerOf (rowsFilled payload) ++ drop 8 area) where
+    -- behind it all is as it was
+    behind : drop 8 started ≡ drop 8 area
+    behind = ap (drop 8) is ∙ behind-header (rowsFilled payload) (drop 8 area)
+
+    -- its 8 bytes are the block's
+    pub header-written : started ≡ written 8 started
+    header-written =
+        is
+        ∙ ap₂ (λ (a b : List ℕ). a ++ b)
+        (ap headerOf (sym (rows-count payload)) ∙ sym (laid-header (codeRows payload)))
+        (sym behind)
+
+    -- and once all rows are
+    pub all-written : written (blockLength (rowsFilled payload)) started ≡ whole ++ drop (blockLength (rowsFilled payload)) area
+    all-written =
+        let bytes = 32 * rowsFilled payload in
+        ap₂ (λ (a b : List ℕ). a ++ b)
+        (take-all (blockLength (rowsFilled payload)) whole (omega (arith, whole-length)))
+        (sym (drop-drop bytes 8 started) ∙ ap (drop bytes) behind ∙ drop-drop bytes 8 area)
+
+  -- one row more
+  pub row-written : (area : List ℕ) (r : ℕ) → r < rowsFilled payload
+      → paste (written (8 + 32 * r) area) (8 + 32 * r) (packed (codeRow payload r) 32) 32 ≡ written (8 + 32 * (r + 1)) area
+  row-written area r less =
+      let row : take 32 (drop (8 + 32 * r) whole) ≡ packed (codeRow payload r) 32 =
+      row-bytes (codeRows payload) r (rw rows-count less) ∙ ap (λ (l : List ℕ). packed l 32) (row-is payload r less)
+      in
+      let next : 8 + 32 * r + 32 ≡ 8 + 32 * (r + 1) = omega arith in
+      ap (λ (l : List ℕ). paste (written (8 + 32 * r) area) (8 + 32 * r) l 32) (sym row)
+      ∙ over-next whole area (8 + 32 * r) 32 (omega (arith, whole-length))
+      ∙ ap (λ (n : ℕ). written n area) next
+
+module _ (payload area : List ℕ) where
+  -- all that is promised of a call that answers so and leaves this
+  abbrev pub Promised : Written → List ℕ → Type 0
+  Promised answer left =
+      (answer ≡ writeAnswer payload area)
+      × ((left ≡ writeBlock payload area) × ((n : ℕ) → answer ≡ Length n → Untouched (take n left) payload))
+
+  -- a refusal is told, and nothing is written
+  pub refusing : {why : Refusal} → Refuses (writeChecks payload area) why → Promised (Refused why) area
+  unfolding writeAnswer writeBlock
+  refusing {why} r = (
+    sym (refused Refused (Length (blockLength (rowsFilled payload))) r),
+    (sym (refused (λ why. area) (whole payload ++ drop (blockLength (rowsFilled payload)) area) r), never),
+  )
+    where
+      never : (n : ℕ) → Refused why ≡ Length n → Untouched (take n area) payload
+      never n same = let z : _≡_ {A = ℕ} 0 1 = cc in absurd (omega arith)
+
+  -- else the block is written, and reads back
+  pub writing : isPayload payload ≡ true → ((i : ℕ) → getD payload i 0 < 256) → Passes (writeChecks payload area)
+      → {left : List ℕ} → left ≡ whole payload ++ drop (blockLength (rowsFilled payload)) area
+      → Promised (Length (blockLength (rowsFilled payload))) left
+  unfolding writeAnswer writeBlock
+  writing right bytes p {left} is = (
+    sym (passed Refused (Length (blockLength (rowsFilled payload))) p),
+    (is ∙ sym (passed (λ why. area) (whole payload ++ drop (blockLength (rowsFilled payload)) area) p), back),
+  )
+    where
+      back : (n : ℕ) → Length (blockLength (rowsFilled payload)) ≡ Length n → Untouched (take n left) payload
+      back n same =
+          let size : blockLength (rowsFilled payload) ≡ n = cc in
+          let first : take n left ≡ whole payload = ap (take n) is ∙ take-at (whole payload) _ n (whole-length payload ∙ size) in
+          rw first (untouched payload right bytes)
+
+  -- the length that is told is that of a block, and the area is as long at least
+  pub told-length : (n : ℕ) → writeAnswer payload area ≡ Length n → (n ≤ 32776) × (n ≤ length area)
+  unfolding writeAnswer writeChecks
+  told-length n told = go (decideChecks (writeChecks payload area))
+    where
+      go : ((why : Refusal) × Refuses (writeChecks payload area) why) ⊎ Passes (writeChecks payload area)
+          → (n ≤ 32776) × (n ≤ length area)
+      go (inl refuses) =
+          let same : Refused (refuses .0) ≡ Length n = sym (refused Refused _ (refuses .1)) ∙ told in
+          let z : _≡_ {A = ℕ} 0 1 = cc in
+          absurd (omega arith)
+      go (inr (clear right (clear room done))) =
+          let same : Length (blockLength (rowsFilled payload)) ≡ Length n = sym (passed Refused _ (clear right (clear room done))) ∙ told in
+          let size : blockLength (rowsFilled payload) ≡ n = cc in
+          let known = fills payload (not-false _ right) in
+          (omega (arith, known .most), omega (arith, ltb-false (length area) (blockLength (rowsFilled payload)) room))

@@ -1,0 +1,5 @@
+pub mod Reading
+pub mod Places
+pub mod Packed
+pub mod Headers
+pub mod Laying

@@ -1,0 +1,5 @@
+pub mod Same
+pub mod Tape
+pub mod Outcomes
+pub mod Encoded
+pub mod CodeRow

@@ -1,0 +1,113 @@
+-- The tape code's numbers, and decoding with it: the call's checks pass, so that its answer is the row's own.
+-- Assumes nothing.
+use mathlib.Core.Path.{_≡_, refl, sym, ap, _∙_}
+use mathlib.Core.Bool.{true, false, not, _||_}
+use mathlib.Core.List.{List, append-nil}
+use Prim.Native.Nat.{ℕ, _≤_}
+use native.Mathlib.Omega.{arith}
+use lib.Dec.{ltb}
+use lib.ListN.{length, drop-of-length-le}
+use borrow.Author.Tests.{eq-eqb, le-ltb}
+use Rattle.algebra.specs.Weights.{gap, nongap}
+use Rattle.lists.specs.Tables.{from, tab, keep}
+use Rattle.refusals.proofs.Checks.{Passes, done, clear, passed}
+use Rattle.symbols.specs.Rule.{isKnown, Known, anyBeyond}
+use Rattle.symbols.proofs.Bytes.{test-known}
+use Rattle.curve.specs.Codes.{pointCount, isCode, nongaps, dimension, reach}
+use Rattle.published.specs.Start.{width}
+use Rattle.published.specs.Picture.{areaSize}
+use Rattle.decoder.specs.declared.Decoded.{Decoded}
+use Rattle.decoder.specs.declared.Decoded.the-variants.{Refused}
+use Rattle.decoder.specs.Decoding.{voted, decoded, decodeChecks, decodeAnswer, cleared, decodeWork, ifAccepted, decodeMessage}
+use Rattle.layout.specs.Packing.{unpacked}
+use Rattle.layout.specs.Layout.{tapeQ, tapeU, rowLength}
+use Rattle.layout.proofs.Reading.{length-unpacked}
+
+-- "The work area needs 4q²(q²+2q-1) symbols"
+pub area-is : areaSize tapeQ ≡ 1472
+unfolding areaSize width
+area-is = refl
+
+-- "n = 64"
+pub points-are : pointCount tapeQ ≡ 64
+unfolding pointCount
+points-are = refl
+
+-- "k = 40"
+pub dimension-is : dimension tapeQ tapeU ≡ 40
+unfolding dimension nongaps keep tab from nongap gap
+dimension-is = refl
+
+-- "τ = 9"
+pub reach-is : reach tapeQ tapeU ≡ 9
+unfolding reach pointCount
+reach-is = refl
+
+-- q = 4 is known
+known : isKnown tapeQ ≡ true
+unfolding isKnown
+known = refl
+
+pub known-tape : Known tapeQ
+known-tape = test-known tapeQ known
+
+-- u = 45 is a code's
+pub a-code : isCode tapeQ tapeU ≡ true
+unfolding isCode pointCount nongap gap
+a-code = refl
+
+-- a row of 64 symbols with room for all that is written
+module _ (row work message corrected : List ℕ) (full : length row ≡ 64) (symbols : anyBeyond tapeQ row ≡ false)
+    (room : areaSize tapeQ ≤ length work) (places : length message ≡ 40) (rest : length corrected ≡ 64) where
+  -- message and corrected row are long enough
+  long-enough : (ltb (length message) (dimension tapeQ tapeU) || ltb (length corrected) (pointCount tapeQ)) ≡ false
+  long-enough = rw (dimension-is, points-are, places, rest)
+
+  -- no check holds
+  passes : Passes (decodeChecks tapeQ tapeU row work message corrected)
+  unfolding decodeChecks
+  passes =
+      clear (ap not known)
+      (clear (ap not a-code)
+      (clear (ap not (eq-eqb _ _ (full ∙ sym points-are)))
+      (clear symbols (clear (le-ltb _ _ room) (clear long-enough done)))))
+
+  -- the answer is the row's own
+  pub answers : decodeAnswer tapeQ tapeU row work message corrected ≡ decoded tapeQ tapeU row
+  unfolding decodeAnswer
+  answers = passed Refused (decoded tapeQ tapeU row) passes
+
+  -- the work area is cleared
+  pub clears : decodeWork tapeQ tapeU row work message corrected ≡ cleared (areaSize tapeQ) work
+  unfolding decodeWork
+  clears = passed (λ why. work) (cleared (areaSize tapeQ) work) passes
+
+  -- an acceptance writes the votes and nothing else
+  pub writes : decodeMessage tapeQ tapeU row work message corrected
+      ≡ ifAccepted (decoded tapeQ tapeU row) (voted tapeQ tapeU row) message
+  unfolding decodeMessage
+  writes =
+      rw answers
+      (ap (λ (l : List ℕ). ifAccepted (decoded tapeQ tapeU row) l message)
+      (rw (dimension-is, drop-of-length-le message {i = 40} (omega arith)) (append-nil (voted tapeQ tapeU row))))
+
+-- what decoding 64 symbols that were unpacked leaves
+pub record ReadRow (packed work message : List ℕ) (answer : Decoded) (work′ message′ : List ℕ) : Type 0 where
+  pub answered : answer ≡ decoded tapeQ tapeU (unpacked packed rowLength)
+  pub emptied : work′ ≡ cleared (areaSize tapeQ) work
+  pub written : message′ ≡ ifAccepted answer (voted tapeQ tapeU (unpacked packed rowLength)) message
+
+-- all that decoding a row of bytes leaves
+pub reads-row : (packed symbols work message corrected : List ℕ) (answer : Decoded) (work′ message′ : List ℕ)
+    → symbols ≡ unpacked packed rowLength → anyBeyond tapeQ symbols ≡ false → areaSize tapeQ ≤ length work
+    → length message ≡ 40 → length corrected ≡ 64 → answer ≡ decodeAnswer tapeQ tapeU symbols work message corrected
+    → work′ ≡ decodeWork tapeQ tapeU symbols work message corrected
+    → message′ ≡ decodeMessage tapeQ tapeU symbols work message corrected → ReadRow packed work message answer work′ message′
+reads-row packed symbols work message corrected answer work′ message′ is below room places rest a w m =
+    let full : length symbols ≡ 64 = ap length is ∙ length-unpacked packed rowLength in
+    let a′ = a ∙ answers symbols work message corrected full below room places rest in
+    record {
+      answered = rw is at a′;
+      emptied = w ∙ clears symbols work message corrected full below room places rest;
+      written = rw (a′, ← is) (m ∙ writes symbols work message corrected full below room places rest);
+    }

@@ -1,0 +1,93 @@
+// The record of one row: its bytes are unpacked where they stand, decoded, and the message is compared with the payload's.
+ghost use mathlib.Core.Path.{_≡_};
+ghost use Prim.Native.Nat.{_+_, _*_, _≤_};
+ghost use lib.ListN.{length};
+ghost use Rattle.published.specs.Picture.{areaSize};
+ghost use Rattle.decoder.specs.Decoding.{voted, decoded, cleared, ifAccepted};
+ghost use Rattle.layout.specs.Packing.{unpacked};
+ghost use Rattle.layout.specs.Layout.{tapeQ, tapeU, rowLength, messageLength};
+ghost use Rattle.lists.specs.Same.{sameList};
+ghost use Rattle.taperow.specs.Reading.{rowRecord, packedRecord};
+use crate::EQUAL;
+use crate::OTHER_MESSAGE;
+use crate::Record;
+use crate::UNREADABLE;
+use decoder::Decoded;
+use layout::unpack;
+
+// A row's 32 bytes are unpacked and decoded.
+fn read_row(row: &[u8], work: &mut [u8], message: &mut [u8]) -> Decoded
+    requires { ⌜ (length (now row) ≡ 32) × (areaSize tapeQ ≤ length (now work)) × (length (now message) ≡ 40) ⌝ }
+    ensures answered { λ r. ⌜ r ≡ decoded tapeQ tapeU (unpacked (now (row .entry)) rowLength) ⌝ }
+    ensures work_left { λ r. ⌜ now (work .exit) ≡ cleared (areaSize tapeQ) (now (work .entry)) ⌝ }
+    ensures message_left { λ r. ⌜ now (message .exit)
+        ≡ ifAccepted r (voted tapeQ tapeU (unpacked (now (row .entry)) rowLength)) (now (message .entry)) ⌝ }
+{
+    let mut symbols = [0u8; 64];
+    unpack(row, &mut symbols);
+    let mut corrected = [0u8; 64];
+    decoder::decode(4, 45, &symbols, work, message, &mut corrected)
+}
+
+// Whether two lists have the same symbols.
+fn same_symbols(left: &[u8], right: &[u8]) -> bool
+    requires { ⌜ length (now left) ≡ length (now right) ⌝ }
+    ensures { λ r. ⌜ r ≡ sameList (now (left .entry)) (now (right .entry)) ⌝ }
+{
+    let mut i = 0;
+    while i < left.len() {
+        if left[i] != right[i] {
+            return false;
+        }
+        i += 1;
+    }
+    true
+}
+
+// Whether a message is the one that 20 bytes of a payload hold.
+fn is_original(message: &[u8], original: &[u8]) -> bool
+    requires { ⌜ (length (now message) ≡ 40) × (length (now original) ≡ 20) ⌝ }
+    ensures { λ r. ⌜ r ≡ sameList (now (message .entry)) (unpacked (now (original .entry)) messageLength) ⌝ }
+{
+    let mut expected = [0u8; 40];
+    unpack(original, &mut expected);
+    same_symbols(message, &expected)
+}
+
+// The record of a row's 32 bytes and its payload's 20.
+fn packed_record(row: &[u8], original: &[u8], work: &mut [u8]) -> Record
+    requires { ⌜ (length (now row) ≡ 32) × (length (now original) ≡ 20) × (areaSize tapeQ ≤ length (now work)) ⌝ }
+    ensures outcome { λ r. ⌜ r ≡ packedRecord (now (row .entry)) (now (original .entry)) ⌝ }
+    ensures work_left { λ r. ⌜ now (work .exit) ≡ cleared (areaSize tapeQ) (now (work .entry)) ⌝ }
+{
+    let mut message = [0u8; 40];
+    let answer = read_row(row, work, &mut message);
+    let Decoded::Accepted(count) = answer else {
+        return Record {
+            state: UNREADABLE,
+            count: 0,
+        };
+    };
+    let state = if is_original(&message, original) {
+        EQUAL
+    } else {
+        OTHER_MESSAGE
+    };
+    Record {
+        state,
+        count: count as u8,
+    }
+}
+
+// The record of row r, which starts at byte 8 + 32r of the block and at byte 20r of the payload.
+pub fn row_record(block: &[u8], payload: &[u8], r: usize, work: &mut [u8]) -> Record
+    requires { ⌜ (40 + 32 * r ≤ length (now block)) × (20 + 20 * r ≤ length (now payload)) × (areaSize tapeQ ≤ length (now work)) ⌝ }
+    ensures { λ x. ⌜ (x ≡ rowRecord (now (block .entry)) (now (payload .entry)) r)
+        × (now (work .exit) ≡ cleared (areaSize tapeQ) (now (work .entry))) ⌝ }
+{
+    packed_record(
+        &block[8 + 32 * r..40 + 32 * r],
+        &payload[20 * r..20 + 20 * r],
+        work,
+    )
+}
