@@ -27,6 +27,14 @@ link() {
     }
 }
 
+# says TEXT COMMAND...: the command prints the text, whatever its exit status is.
+says() {
+    local said wanted=$1
+    shift
+    said=$("$@") || true
+    [[ $said == "$wanted" ]] || { echo "$* says $said instead of $wanted"; return 1; }
+}
+
 # plain FOLDER TO [WORDS...]: compiles the plain C version in FOLDER into TO/*.o.
 plain() {
     local from=$1 to=$2 file

@@ -32,6 +32,7 @@ int64_t plain_decode(uint64_t q, uint64_t u, const uint8_t *row, size_t row_len,
                      uint8_t *message, size_t message_len, uint8_t *corrected, size_t corrected_len);
 int64_t plain_verify(const uint8_t *block, size_t block_len, const uint8_t *payload, size_t payload_len,
                      uint8_t *records, size_t records_len, uint8_t *work, size_t work_len, uint64_t *at);
+int64_t plain_write(const uint8_t *payload, size_t payload_len, uint8_t *block, size_t block_len);
 
 struct side {
     const char *name;
@@ -40,11 +41,12 @@ struct side {
                       size_t);
     int64_t (*verify)(const uint8_t *, size_t, const uint8_t *, size_t, uint8_t *, size_t, uint8_t *, size_t,
                       uint64_t *);
+    int64_t (*write)(const uint8_t *, size_t, uint8_t *, size_t);
 };
 
 static const struct side sides[2] = {
-    {"archive", tape_encode, tape_decode, tape_verify},
-    {"plain C", plain_encode, plain_decode, plain_verify},
+    {"archive", tape_encode, tape_decode, tape_verify, tape_write},
+    {"plain C", plain_encode, plain_decode, plain_verify, plain_write},
 };
 
 /* What every workload reads: made once, before any is timed. */
@@ -63,12 +65,14 @@ static struct lent {
     uint8_t messages[ROWS][TAPE_K];
     uint8_t rows[ROWS][TAPE_N];
     uint8_t records[ROWS * TAPE_RECORD_BYTES];
+    uint8_t block[BLOCK_BYTES];
 } lent, kept;
 
-/* Workload 0 encodes, 1 verifies a block, 2 + d decodes rows with d damaged places. */
+/* Workload 0 encodes, 1 verifies a block, 2 writes one, 3 + d decodes rows with d damaged places. */
 enum {
     ENCODE,
     VERIFY,
+    WRITE,
     DECODE,
     WORKLOADS = DECODE + MOST_DAMAGE + 1
 };
@@ -131,6 +135,10 @@ __attribute__((noinline)) void measured(size_t workload, const struct side *side
                                        sizeof lent.records, lent.work, sizeof lent.work, &lent.at);
         return;
     }
+    if (workload == WRITE) {
+        lent.results[0] = side->write(given.payload, sizeof given.payload, lent.block, sizeof lent.block);
+        return;
+    }
     for (size_t r = 0; r < ROWS; r++)
         lent.results[r] =
             workload == ENCODE
@@ -184,6 +192,7 @@ static int compare(size_t workload, int64_t best[2])
 
 static int compare_all(void)
 {
+    static const char *const names[DECODE] = {"encode", "verify a block", "write a block"};
     printf("workload (%d rows)   archive rows/s   plain C rows/s   archive / plain C\n", ROWS);
     for (size_t workload = 0; workload < WORKLOADS; workload++) {
         int64_t best[2];
@@ -193,7 +202,7 @@ static int compare_all(void)
         }
         double archive = ROWS * 1e9 / (double)best[0], plain = ROWS * 1e9 / (double)best[1];
         if (workload < DECODE)
-            printf("%-18s", workload == ENCODE ? "encode" : "verify a block");
+            printf("%-18s", names[workload]);
         else
             printf("decode, damage %2d ", (int)(workload - DECODE));
         printf(" %15.0f  %15.0f   %16.2f\n", archive, plain, archive / plain);

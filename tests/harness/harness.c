@@ -14,7 +14,8 @@ enum {
     ENCODE = 1, /* areas: message, row */
     STOP = 2,   /* areas: row, work, votes */
     DECODE = 3, /* areas: row, work, message, corrected */
-    VERIFY = 4  /* areas: block, payload, records, work; the first number is *at */
+    VERIFY = 4, /* areas: block, payload, records, work; the first number is *at */
+    WRITE = 5   /* areas: payload, block */
 };
 
 enum {
@@ -67,10 +68,10 @@ static int write_all(const uint8_t *from, size_t length)
     return 1;
 }
 
-/* Whether every area stands in the body and the call is one of the four. */
+/* Whether every area stands in the body and the call is one of the five. */
 static int is_request(size_t length)
 {
-    if (length < sizeof(struct request) || body.request.call < ENCODE || body.request.call > VERIFY)
+    if (length < sizeof(struct request) || body.request.call < ENCODE || body.request.call > WRITE)
         return 0;
     for (size_t at = 0; at < AREAS; at++) {
         struct area area = body.request.areas[at];
@@ -97,9 +98,11 @@ static int64_t call_layer(void)
         return tape_stop(q, u, steps, lent[0], length[0], lent[1], length[1], lent[2], length[2]);
     case DECODE:
         return tape_decode(q, u, lent[0], length[0], lent[1], length[1], lent[2], length[2], lent[3], length[3]);
-    default:
+    case VERIFY:
         return tape_verify(lent[0], length[0], lent[1], length[1], lent[2], length[2], lent[3], length[3],
                            &asked->numbers[0]);
+    default:
+        return tape_write(lent[0], length[0], lent[1], length[1]);
     }
 }
 

@@ -7,6 +7,7 @@ struct lent {
     uint8_t row[TAPE_N];
     uint8_t message[TAPE_K];
     uint8_t records[TAPE_RECORD_BYTES * TAPE_MOST_ROWS];
+    uint8_t block[TAPE_HEADER_BYTES + TAPE_ROW_BYTES];
 };
 
 int64_t decode_and_encode_again(struct lent *lent, uint8_t corrected[TAPE_N]);
@@ -17,6 +18,12 @@ int64_t decode_and_encode_again(struct lent *lent, uint8_t corrected[TAPE_N])
     if (answer == -TAPE_BEYOND_REACH)
         return tape_stop(2, 4, TAPE_STEPS_Q2, lent->row, TAPE_ROW_Q2, lent->small_work, TAPE_WORK_Q2, lent->message, 4);
     return tape_encode(TAPE_Q, TAPE_U, lent->message, TAPE_K, lent->row, TAPE_N);
+}
+
+int64_t write_one_row(struct lent *lent, const uint8_t payload[TAPE_PAYLOAD_BYTES]);
+int64_t write_one_row(struct lent *lent, const uint8_t payload[TAPE_PAYLOAD_BYTES])
+{
+    return tape_write(payload, TAPE_PAYLOAD_BYTES, lent->block, sizeof lent->block);
 }
 
 int is_copied(struct lent *lent, const uint8_t *block, size_t block_len, const uint8_t *payload, size_t payload_len);

@@ -108,6 +108,45 @@ static uint8_t symbol_in(const uint8_t *bytes, size_t at)
     return at % 2 == 0 ? bytes[at / 2] >> 4 : bytes[at / 2] & 15;
 }
 
+/* Encodes a packed message and packs its row. */
+static void write_packed_row(const struct code *code, const uint8_t *original, uint8_t *packed)
+{
+    uint8_t message[TAPE_K], row[TAPE_N];
+    for (size_t at = 0; at < TAPE_K; at++)
+        message[at] = symbol_in(original, at);
+    write_row(code, message, row);
+    for (size_t at = 0; at < TAPE_ROW_BYTES; at++)
+        packed[at] = (uint8_t)(row[2 * at] << 4 | row[2 * at + 1]);
+}
+
+static void write_header(uint8_t *block, size_t rows)
+{
+    size_t length = 4 + TAPE_ROW_BYTES * rows;
+    block[0] = (uint8_t)(length >> 24);
+    block[1] = (uint8_t)(length >> 16);
+    block[2] = (uint8_t)(length >> 8);
+    block[3] = (uint8_t)length;
+    block[4] = 1;
+    block[5] = TAPE_U;
+    block[6] = (uint8_t)(rows >> 8);
+    block[7] = (uint8_t)rows;
+}
+
+int64_t tape_write(const uint8_t *payload, size_t payload_len, uint8_t *block, size_t block_len)
+{
+    struct code code;
+    size_t rows = payload_len / TAPE_PAYLOAD_BYTES;
+    if (payload_len % TAPE_PAYLOAD_BYTES != 0 || rows == 0 || rows > TAPE_MOST_ROWS)
+        return -TAPE_WRONG_PAYLOAD;
+    if (block_len < TAPE_HEADER_BYTES + TAPE_ROW_BYTES * rows)
+        return -TAPE_SHORT_OUTPUT;
+    find_code(TAPE_Q, TAPE_U, &code);
+    write_header(block, rows);
+    for (size_t r = 0; r < rows; r++)
+        write_packed_row(&code, payload + TAPE_PAYLOAD_BYTES * r, block + TAPE_HEADER_BYTES + TAPE_ROW_BYTES * r);
+    return (int64_t)(TAPE_HEADER_BYTES + TAPE_ROW_BYTES * rows);
+}
+
 /* Decodes one row, compares it with its part of the payload and records the outcome. */
 static void verify_row(const struct code *code, const uint8_t *packed, const uint8_t *original, uint8_t *record,
                        uint8_t *work)

@@ -23,6 +23,7 @@ pub enum Call {
     Verify {
         at: u64,
     },
+    Write,
 }
 
 impl Call {
@@ -33,6 +34,7 @@ impl Call {
             Call::Stop { q, u, steps } => (2, [q, u, steps]),
             Call::Decode { q, u } => (3, [q, u, 0]),
             Call::Verify { at } => (4, [at, 0, 0]),
+            Call::Write => (5, [0, 0, 0]),
         }
     }
 
@@ -43,6 +45,7 @@ impl Call {
             Call::Stop { .. } => &["row", "work", "votes"],
             Call::Decode { .. } => &["row", "work", "message", "corrected"],
             Call::Verify { .. } => &["block", "payload", "records", "work"],
+            Call::Write => &["payload", "block"],
         }
     }
 }

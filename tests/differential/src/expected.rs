@@ -1,13 +1,21 @@
 //! What the reference answers and leaves for a case, as the layer's C interface tells it.
 
 use crate::case::{Call, Case, Outcome};
-use reference::block::{verify, Record, Verdict};
+use reference::block::{verify, write, Record, Verdict};
 use reference::calls::{decode, encode, stop};
 
 /// The answer of a call that tells only that it is done.
 fn done_or_refused(answer: Result<(), u8>) -> i64 {
     match answer {
         Ok(()) => 0,
+        Err(refusal) => -i64::from(refusal),
+    }
+}
+
+/// The answer of a call that tells a number when it is done.
+fn number_or_refused(answer: Result<u64, u8>) -> i64 {
+    match answer {
+        Ok(number) => number as i64,
         Err(refusal) => -i64::from(refusal),
     }
 }
@@ -24,15 +32,15 @@ pub fn expected(case: &Case) -> Outcome {
         }
         (&Call::Decode { q, u }, [row, work, message, corrected]) => {
             let answer = decode(q, u, row, work, message, corrected);
-            let result = match answer {
-                Ok(count) => count as i64,
-                Err(refusal) => -i64::from(refusal),
-            };
-            (result, None)
+            (number_or_refused(answer), None)
         }
         (&Call::Verify { at }, [block, payload, records, work]) => {
             let (result, at) = verified(block, payload, records, work, at);
             (result, Some(at))
+        }
+        (Call::Write, [payload, block]) => {
+            let answer = write(payload, block).map(|length| length as u64);
+            (number_or_refused(answer), None)
         }
         (call, areas) => panic!("{:?} does not take {} areas", call, areas.len()),
     };

@@ -1,12 +1,14 @@
 //! The groups of cases, and how many of each are tried.
 
 use crate::blocks::{damaged_block, forbidden_count, other_header, random_bytes, refused_block};
+use crate::writes::{refused_write, write_case};
 use crate::case::Case;
 use crate::refusals::row_call;
 use crate::rows::{
     around, codes_and_damages, codes_and_steps, damaged, decode_case, encode_case, garbage,
     row_of_q_2, stop_case,
 };
+use reference::block::MOST_ROWS;
 use reference::curve::Code;
 use reference::samples::{all_codes, Random};
 
@@ -62,6 +64,16 @@ pub fn all_groups() -> Vec<Group> {
             name: "refusals 1 to 7: every call, every set of wrongs",
             count: 512 * 24,
             make: row_call,
+        },
+        Group {
+            name: "write: refusals 10 and 7, every set of wrongs",
+            count: 4 * 11 * 30,
+            make: refused_write,
+        },
+        Group {
+            name: "write: every number of rows from 1 to 1,024",
+            count: MOST_ROWS,
+            make: |index, random| write_case(MOST_ROWS - index, random),
         },
         Group {
             name: "verify: every other byte in each place of the header",

@@ -10,6 +10,7 @@ mod harness;
 mod refusals;
 mod report;
 mod rows;
+mod writes;
 
 use case::Body;
 use expected::expected;

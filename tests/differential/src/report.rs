@@ -1,7 +1,7 @@
 //! A difference in words, with the row as a text that the program rowtrace reads.
 
 use crate::case::{Body, Call, Case, Outcome};
-use reference::block::{unpack, ROW_BYTES};
+use reference::block::{unpack, PAYLOAD_BYTES, ROW_BYTES};
 use reference::calls::encode;
 use std::fmt::Write;
 
@@ -48,6 +48,11 @@ pub fn case_in_words(case: &Case, expected: &Outcome) -> String {
             text += &rowtrace_text(q, u, &case.areas[0]);
         }
         Call::Verify { .. } => text += &rows_of_block(case, expected),
+        Call::Write => {
+            let payload = &case.areas[0];
+            let first = &payload[..payload.len().min(PAYLOAD_BYTES)];
+            writeln!(text, "payload begins with {first:?}").expect("a string takes every text");
+        }
     }
     text
 }

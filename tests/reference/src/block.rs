@@ -1,4 +1,5 @@
-//! Blocks of tape rows (document 01, "Block and verification"): reading, verifying, making.
+//! Blocks of tape rows (document 01, "Block and verification"; document 02, Wish 1): reading,
+//! verifying, making, writing.
 //!
 //! A block is 4 bytes length of what follows, 1 byte version, 1 byte u, 2 bytes count of rows R,
 //! then R rows of 32 bytes. Numbers are big-endian; in a byte the high four bits come first.
@@ -6,7 +7,9 @@
 use crate::calls::decode;
 use crate::curve::Code;
 use crate::picture::picture_size;
-use crate::refusal::{Refusal, BAD_BLOCK, BAD_PAYLOAD, SHORT_WORK, TOO_FEW_RECORDS};
+use crate::refusal::{
+    Refusal, BAD_BLOCK, BAD_PAYLOAD, SHORT_OUTPUT, SHORT_WORK, TOO_FEW_RECORDS,
+};
 
 const TAPE_Q: u64 = 4;
 const TAPE_U: u8 = 45;
@@ -140,6 +143,15 @@ pub fn block_of(payload: &[u8]) -> Option<Vec<u8>> {
         block.extend(pack(&tape.encode(&unpack(original))));
     }
     Some(block)
+}
+
+/// Writes the block of a payload to the first bytes of an area; the answer is how many bytes that is.
+/// Refusals: 10, 7, in this order.
+pub fn write(payload: &[u8], area: &mut [u8]) -> Result<usize, Refusal> {
+    let block = block_of(payload).ok_or(BAD_PAYLOAD)?;
+    let room = area.get_mut(..block.len()).ok_or(SHORT_OUTPUT)?;
+    room.copy_from_slice(&block);
+    Ok(block.len())
 }
 
 /// The header for a count of rows, also a forbidden one, which tests of refusal 9 need.

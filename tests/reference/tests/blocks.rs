@@ -1,7 +1,8 @@
 //! Blocks: the header, verification, its refusals, and the lent records and work area.
 
 use reference::block::{
-    block_of, pack, row_count, unpack, verify, Record, Verdict, EQUAL, OTHER_MESSAGE, UNREADABLE,
+    block_of, pack, row_count, unpack, verify, write, Record, Verdict, EQUAL, OTHER_MESSAGE,
+    UNREADABLE,
 };
 use reference::field::Field;
 use reference::samples::Random;
@@ -48,6 +49,32 @@ fn a_block_has_the_header_of_document_01() {
     assert_eq!(block_of(&[]), None);
     assert_eq!(block_of(&[0; 19]), None);
     assert_eq!(block_of(&vec![0; 20 * 1025]), None);
+}
+
+#[test]
+fn writing_fills_the_block_and_nothing_behind_it() {
+    let payload = Random::seeded(22).bytes(60);
+    let mut area = [0xee; 110];
+    assert_eq!(write(&payload, &mut area), Ok(104));
+    assert_eq!(area[..104], block_of(&payload).unwrap()[..]);
+    assert_eq!(area[104..], [0xee; 6]);
+}
+
+#[test]
+fn writing_refuses_by_10_and_then_by_7() {
+    for (bytes, room, refusal) in [
+        (0, 7, 10),
+        (19, 7, 10),
+        (21, 40, 10),
+        (20 * 1025, 32_808, 10),
+        (20, 39, 7),
+        (60, 103, 7),
+        (20 * 1024, 32_775, 7),
+    ] {
+        let mut area = vec![0xee; room];
+        assert_eq!(write(&vec![1; bytes], &mut area), Err(refusal));
+        assert_eq!(area, vec![0xee; room]);
+    }
 }
 
 #[test]
