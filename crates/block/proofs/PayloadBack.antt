@@ -1,21 +1,21 @@
 -- A payload can be read back from its block, so two payloads with the same block are the same.
 -- Assumes nothing.
-use mathlib.Core.Path.{_≡_, refl, sym, ap, _∙_}
+use mathlib.Core.Path.{_≡_, sym, ap, _∙_}
 use mathlib.Core.Bool.{true}
 use mathlib.Core.List.{List}
 use Prim.Native.Nat.{ℕ, _+_, _*_, _/_, _%_, _<_}
 use native.Mathlib.Omega.{arith}
 use lib.ListN.{length, getD}
-use Rattle.lists.specs.Tables.{tab, join}
+use Rattle.lists.specs.Tables.{join}
 use Rattle.lists.proofs.Tables.{getD-tab, getD-join, tab-is}
 use Rattle.decoder.specs.Decoding.{voted}
 use Rattle.decoder.proofs.ReadingBack.{voted-row}
 use Rattle.decoder.proofs.RowNumbers.{voted-count}
 use Rattle.layout.specs.Packing.{symbolIn, packedByte, packed}
-use Rattle.layout.specs.Layout.{tapeQ, tapeU, messageLength, rowCount, blockRow, payloadRow, blockOf}
+use Rattle.layout.specs.Layout.{tapeQ, tapeU, messageLength, rowCount, blockRow, payloadRow}
 use Rattle.layout.proofs.Packed.{byte-back}
 use Rattle.taperow.specs.Laying.{codeRow}
-use Rattle.block.specs.Writing.{rowsFilled, isPayload, codeRows, payloadOf}
+use Rattle.block.specs.Writing.{isPayload, blockFor, payloadOf}
 use Rattle.taperow.proofs.Tape.{known-tape, dimension-is}
 use Rattle.taperow.proofs.CodeRow.{message-of}
 use Rattle.block.proofs.CodeRows.{fills}
@@ -23,7 +23,7 @@ use Rattle.block.proofs.Unchanged.{written-count, written-row}
 
 module _ (payload : List ℕ) (right : isPayload payload ≡ true) (bytes : (i : ℕ) → getD payload i 0 < 256) where
   abbrev block : List ℕ
-  block = blockOf (codeRows payload)
+  block = blockFor payload
 
   -- the message that row r decodes to
   abbrev message : ℕ → List ℕ
@@ -73,6 +73,6 @@ module _ (payload : List ℕ) (right : isPayload payload ≡ true) (bytes : (i :
 -- two payloads whose blocks are equal are equal
 pub blocks-tell : (payload payload′ : List ℕ) → isPayload payload ≡ true → isPayload payload′ ≡ true
     → ((i : ℕ) → getD payload i 0 < 256) → ((i : ℕ) → getD payload′ i 0 < 256)
-    → blockOf (codeRows payload) ≡ blockOf (codeRows payload′) → payload ≡ payload′
+    → blockFor payload ≡ blockFor payload′ → payload ≡ payload′
 blocks-tell payload payload′ right right′ bytes bytes′ same =
     sym (payload-back payload right bytes) ∙ ap payloadOf same ∙ payload-back payload′ right′ bytes′

@@ -9,18 +9,17 @@ use native.Mathlib.Omega.{arith}
 use lib.ListN.{length, getD, drop, replicate}
 use borrow.Author.Tests.{eq-eqb, le-ltb}
 use Rattle.refusals.proofs.Checks.{Passes, done, clear, passed}
-use Rattle.lists.specs.Tables.{tab}
 use Rattle.lists.proofs.Tables.{tab-const}
 use Rattle.published.specs.Picture.{areaSize}
-use Rattle.layout.specs.Layout.{tapeQ, tapeU, rowCount, isBlock, blockRow, payloadRow, blockOf}
+use Rattle.layout.specs.Layout.{tapeQ, rowCount, isBlock, blockRow}
 use Rattle.layout.proofs.Laying.{laid-count, laid-block, row-laid}
 use Rattle.taperow.specs.Reading.{rowRecord}
 use Rattle.block.specs.Verification.{verdictFrom, allRecords, checksFor, verifyChecks, verifyAnswer}
 use Rattle.block.specs.Verification.{verifyRecords}
 use Rattle.block.specs.AsBytes.{recordBytes, byteChecks, verifyBytesAnswer, verifyBytesRecords}
 use Rattle.taperow.specs.Laying.{codeRow}
-use Rattle.block.specs.Writing.{rowsFilled, isPayload, codeRows}
-use Rattle.block.specs.Untouched.{unchanged, Lent, Untouched}
+use Rattle.block.specs.Writing.{rowsFilled, isPayload, codeRows, blockFor}
+use Rattle.block.specs.Untouched.{unchanged, Untouched}
 use Rattle.taperow.specs.declared.Record.{Record}
 use Rattle.block.specs.declared.Verified.the-variants.{Copied, Refused}
 use Rattle.taperow.proofs.CodeRow.{unchanged-row}
@@ -41,9 +40,8 @@ all-zeros (suc n) =
     rw twice (ap (λ (l : List ℕ). 0 ∷ 0 ∷ l) (all-zeros n))
 
 module _ (payload : List ℕ) (right : isPayload payload ≡ true) where
-  -- the block of the payload
   abbrev block : List ℕ
-  block = blockOf (codeRows payload)
+  block = blockFor payload
 
   -- it has a row for each message
   pub written-count : rowCount block ≡ rowsFilled payload

@@ -14,29 +14,25 @@ use Rattle.refusals.specs.declared.Refusal.{Refusal}
 use Rattle.refusals.proofs.Checks.{Refuses, Passes, done, clear, refused, passed, decideChecks}
 use Rattle.lists.proofs.Pasted.{over-next}
 use Rattle.layout.specs.Packing.{packed}
-use Rattle.layout.specs.Layout.{blockLength, headerOf, blockOf}
+use Rattle.layout.specs.Layout.{blockLength, headerOf}
 use Rattle.layout.proofs.Headers.{behind-header}
 use Rattle.layout.proofs.Laying.{laid-length, laid-header, row-bytes}
 use Rattle.block.specs.declared.Written.{Written}
 use Rattle.block.specs.declared.Written.the-variants.{Length, Refused}
 use Rattle.taperow.specs.Laying.{codeRow}
-use Rattle.block.specs.Writing.{rowsFilled, isPayload, codeRows, writeChecks, writeAnswer, writeBlock}
+use Rattle.block.specs.Writing.{rowsFilled, isPayload, codeRows, blockFor, writeChecks, writeAnswer, writeBlock}
 use Rattle.block.specs.Untouched.{Untouched}
 use Rattle.block.proofs.CodeRows.{fills, rows-count, row-is}
 use Rattle.block.proofs.Unchanged.{untouched}
 
 module _ (payload : List ℕ) where
-  -- the payload's block
-  abbrev whole : List ℕ
-  whole = blockOf (codeRows payload)
-
-  -- as long as its rows say
-  whole-length : length whole ≡ blockLength (rowsFilled payload)
-  whole-length = laid-length (codeRows payload) ∙ ap blockLength (rows-count payload)
+  -- the block is as long as its rows say
+  block-length : length (blockFor payload) ≡ blockLength (rowsFilled payload)
+  block-length = laid-length (codeRows payload) ∙ ap blockLength (rows-count payload)
 
   -- what the area holds when its first n bytes are written
   abbrev pub written : ℕ → List ℕ → List ℕ
-  written n area = take n whole ++ drop n area
+  written n area = take n (blockFor payload) ++ drop n area
 
   -- once the header is written
   module _ (area started : List ℕ) (is : started ≡ headerOf (rowsFilled payload) ++ drop 8 area) where
@@ -53,23 +49,23 @@ module _ (payload : List ℕ) where
         (sym behind)
 
     -- and once all rows are
-    pub all-written : written (blockLength (rowsFilled payload)) started ≡ whole ++ drop (blockLength (rowsFilled payload)) area
+    pub all-written : written (blockLength (rowsFilled payload)) started ≡ blockFor payload ++ drop (blockLength (rowsFilled payload)) area
     all-written =
         let bytes = 32 * rowsFilled payload in
         ap₂ (λ (a b : List ℕ). a ++ b)
-        (take-all (blockLength (rowsFilled payload)) whole (omega (arith, whole-length)))
+        (take-all (blockLength (rowsFilled payload)) (blockFor payload) (omega (arith, block-length)))
         (sym (drop-drop bytes 8 started) ∙ ap (drop bytes) behind ∙ drop-drop bytes 8 area)
 
   -- one row more
   pub row-written : (area : List ℕ) (r : ℕ) → r < rowsFilled payload
       → paste (written (8 + 32 * r) area) (8 + 32 * r) (packed (codeRow payload r) 32) 32 ≡ written (8 + 32 * (r + 1)) area
   row-written area r less =
-      let row : take 32 (drop (8 + 32 * r) whole) ≡ packed (codeRow payload r) 32 =
+      let row : take 32 (drop (8 + 32 * r) (blockFor payload)) ≡ packed (codeRow payload r) 32 =
       row-bytes (codeRows payload) r (rw rows-count less) ∙ ap (λ (l : List ℕ). packed l 32) (row-is payload r less)
       in
       let next : 8 + 32 * r + 32 ≡ 8 + 32 * (r + 1) = omega arith in
       ap (λ (l : List ℕ). paste (written (8 + 32 * r) area) (8 + 32 * r) l 32) (sym row)
-      ∙ over-next whole area (8 + 32 * r) 32 (omega (arith, whole-length))
+      ∙ over-next (blockFor payload) area (8 + 32 * r) 32 (omega (arith, block-length))
       ∙ ap (λ (n : ℕ). written n area) next
 
 module _ (payload area : List ℕ) where
@@ -84,7 +80,7 @@ module _ (payload area : List ℕ) where
   unfolding writeAnswer writeBlock
   refusing {why} r = (
     sym (refused Refused (Length (blockLength (rowsFilled payload))) r),
-    (sym (refused (λ why. area) (whole payload ++ drop (blockLength (rowsFilled payload)) area) r), never),
+    (sym (refused (λ why. area) (blockFor payload ++ drop (blockLength (rowsFilled payload)) area) r), never),
   )
     where
       never : (n : ℕ) → Refused why ≡ Length n → Untouched (take n area) payload
@@ -92,18 +88,18 @@ module _ (payload area : List ℕ) where
 
   -- else the block is written, and reads back
   pub writing : isPayload payload ≡ true → ((i : ℕ) → getD payload i 0 < 256) → Passes (writeChecks payload area)
-      → {left : List ℕ} → left ≡ whole payload ++ drop (blockLength (rowsFilled payload)) area
+      → {left : List ℕ} → left ≡ blockFor payload ++ drop (blockLength (rowsFilled payload)) area
       → Promised (Length (blockLength (rowsFilled payload))) left
   unfolding writeAnswer writeBlock
   writing right bytes p {left} is = (
     sym (passed Refused (Length (blockLength (rowsFilled payload))) p),
-    (is ∙ sym (passed (λ why. area) (whole payload ++ drop (blockLength (rowsFilled payload)) area) p), back),
+    (is ∙ sym (passed (λ why. area) (blockFor payload ++ drop (blockLength (rowsFilled payload)) area) p), back),
   )
     where
       back : (n : ℕ) → Length (blockLength (rowsFilled payload)) ≡ Length n → Untouched (take n left) payload
       back n same =
           let size : blockLength (rowsFilled payload) ≡ n = cc in
-          let first : take n left ≡ whole payload = ap (take n) is ∙ take-at (whole payload) _ n (whole-length payload ∙ size) in
+          let first : take n left ≡ blockFor payload = ap (take n) is ∙ take-at (blockFor payload) _ n (block-length payload ∙ size) in
           rw first (untouched payload right bytes)
 
   -- the length that is told is that of a block, and the area is as long at least

@@ -1,15 +1,11 @@
--- What the functions inside verifying answer: the verdict before the first row and after each. Document 01, "Block and verification".
+-- What the functions inside verifying answer: the verdict before the first row and after each. Document 01, "Block and
+-- verification".
 -- Assumes nothing.
 use mathlib.Core.Bool.{true, false}
 use mathlib.Core.List.{List}
 use Prim.Native.Nat.{ℕ, _+_}
 use lib.Dec.{eqb}
 use Rattle.refusals.specs.Numbers.{firstOf}
-use Rattle.decoder.specs.Decoding.{voted, decoded}
-use Rattle.layout.specs.Packing.{unpacked}
-use Rattle.layout.specs.Layout.{tapeQ, tapeU, rowLength, messageLength}
-use Rattle.lists.specs.Same.{sameList}
-use Rattle.taperow.specs.Reading.{outcome}
 use Rattle.block.specs.Verification.{checksFor}
 use Rattle.taperow.specs.declared.Record.{Record}
 use Rattle.block.specs.declared.Verified.{Verified}

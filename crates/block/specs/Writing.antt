@@ -27,6 +27,10 @@ isPayload payload = eqb (length payload % 20) 0 && (leb 1 (rowsFilled payload) &
 unfoldable pub codeRows : List ℕ → List (List ℕ)
 codeRows payload = tab (rowsFilled payload) (codeRow payload)
 
+-- the block of a payload
+abbrev pub blockFor : List ℕ → List ℕ
+blockFor payload = blockOf (codeRows payload)
+
 -- 10, then 7
 unfoldable pub writeChecks : List ℕ → List ℕ → List Check
 writeChecks payload block =
@@ -38,11 +42,10 @@ writeChecks payload block =
 unfoldable pub writeAnswer : List ℕ → List ℕ → Written
 writeAnswer payload block = firstOf (writeChecks payload block) Refused (Length (blockLength (rowsFilled payload)))
 
--- the block of these rows, and behind it what was there; a refusal writes nothing
+-- the payload's block, and behind it what was there; a refusal writes nothing
 unfoldable pub writeBlock : List ℕ → List ℕ → List ℕ
 writeBlock payload block =
-    firstOf (writeChecks payload block) (λ why. block)
-    (blockOf (codeRows payload) ++ drop (blockLength (rowsFilled payload)) block)
+    firstOf (writeChecks payload block) (λ why. block) (blockFor payload ++ drop (blockLength (rowsFilled payload)) block)
 
 -- the payload that the rows of a block decode to
 unfoldable pub payloadOf : List ℕ → List ℕ

@@ -2,7 +2,7 @@
 -- Assumes nothing.
 use mathlib.Core.Path.{_≡_, sym, ap, ap₂, _∙_}
 use mathlib.Core.Bool.{true}
-use mathlib.Core.List.{List, [], _++_}
+use mathlib.Core.List.{List, []}
 use Prim.Native.Nat.{ℕ, _+_, _*_, _≤_, _<_}
 use native.Mathlib.Omega.{arith}
 use lib.ListN.{length, getD, take, drop, length-append, length-drop}
@@ -11,7 +11,7 @@ use borrow.Author.Tests.{eq-eqb}
 use Rattle.lists.specs.Tables.{tab}
 use Rattle.lists.proofs.Tables.{getD-tab, tab-is}
 use Rattle.layout.specs.Packing.{symbolIn, packedByte, packed}
-use Rattle.layout.specs.Layout.{rowLength, rowCount, blockLength, isHeader, isBlock, headerOf, symbolPlace, rowAt, columnAt}
+use Rattle.layout.specs.Layout.{rowLength, rowCount, blockLength, isBlock, headerOf, symbolPlace, rowAt, columnAt}
 use Rattle.layout.specs.Layout.{blockRow, laidSymbol, blockOf}
 use Rattle.layout.proofs.Places.{bijection}
 use Rattle.layout.proofs.Packed.{length-packed, symbol-packed}

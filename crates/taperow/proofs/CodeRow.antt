@@ -15,7 +15,6 @@ use Rattle.decoder.proofs.RowNumbers.{row-count, row-symbols}
 use Rattle.layout.specs.Packing.{symbolIn}
 use Rattle.layout.specs.Layout.{tapeQ, tapeU, rowLength, messageLength, blockRow, payloadRow}
 use Rattle.layout.proofs.Reading.{message-part, none-beyond}
-use Rattle.taperow.specs.declared.Record.{Record}
 use Rattle.taperow.specs.Reading.{outcome, rowRecord}
 use Rattle.taperow.specs.Laying.{codeRow}
 use Rattle.taperow.proofs.Tape.{known-tape, a-code, points-are, dimension-is}

@@ -7,7 +7,7 @@ use native.Mathlib.Omega.{arith}
 use lib.ListN.{length}
 use denote.Ref.{now}
 use borrow.Author.Needs.{needs}
-use borrow.Author.Tests.{not-true, not-false, lt-ltb, le-ltb}
+use borrow.Author.Tests.{not-false, lt-ltb, le-ltb}
 use Rattle.refusals.proofs.Checks.{here, later, clear, done}
 use Rattle.block.specs.Writing.{rowsFilled, isPayload, writeChecks}
 use Rattle.block.proofs.CodeRows.{Fills, fills}

@@ -3,7 +3,6 @@ use mathlib.Core.Path.{refl, _∙_}
 use native.Mathlib.Omega.{arith}
 use denote.Ref.{now}
 use borrow.Author.Needs.{needs}
-use Rattle.layout.specs.Packing.{packed}
 use Rattle.taperow.proofs.Encoded.{encodable, filled-length, filled-symbols, packed-filled}
 use Rattle.taperow.proofs.laying.encode_packed.Statement.{statement}
 use Rattle.taperow.proofs.laying.encode_packed.Tie as tie
