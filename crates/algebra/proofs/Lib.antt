@@ -5,6 +5,7 @@ pub mod Ring
 pub mod Powers
 pub mod Sums
 pub mod Polynomials
+pub mod Shifts
 pub mod Roots
 -- numbers: sums, weights, the pairing of the rows at a step
 pub mod NumberSums

@@ -1,11 +1,10 @@
 // Decodes the rows on standard input, one to a line, and tells of each the answer, the two outputs (a dot where nothing was
-// written) and how many places of the work area are zero from its start on; then document 01's entries "76 steps pass, 77
-// gives 3. Work of 1,472 passes, 1,471 gives 6." The files stdin and stdout were made outside: they are what
-// tests/reference prints for `cargo run --example decode_vectors -- rows` and `-- answers`.
+// written) and how many places of the work area are zero from its start on; then document 01's entries for a work area of 1,472
+// and one of 1,471. The files stdin and stdout were made outside: they are what tests/reference prints for
+// `cargo run --example decode_vectors -- rows` and `-- answers`.
 use decoder::Decoded;
 use libc::STDIN_FILENO;
 use libc::STDOUT_FILENO;
-use steps::Stopped;
 ghost use Prim.Native.Nat.{_≤_};
 ghost use lib.ListN.{length};
 
@@ -115,7 +114,7 @@ fn decode_lines(text: &[u8]) {
     }
 }
 
-// "Work of 1,472 passes, 1,471 gives 6."
+// The zero row with a work area of this size.
 fn try_work(size: usize) {
     let mut work = [UNTOUCHED; 1480];
     if 1480 < size {
@@ -126,30 +125,10 @@ fn try_work(size: usize) {
     decode_row(4, 45, &[0u8; 64], &mut work[..size]);
 }
 
-// "76 steps pass, 77 gives 3."
-fn try_steps(count: usize) {
-    let mut work = [UNTOUCHED; 1480];
-    let mut votes = [UNTOUCHED; 40];
-    io::write_all(STDOUT_FILENO, b"steps ");
-    io::print_decimal(STDOUT_FILENO, count as u64);
-    match steps::stop(4, 45, count, &[0u8; 64], &mut work, &mut votes) {
-        Stopped::Done => {
-            io::write_all(STDOUT_FILENO, b" done\n");
-        }
-        Stopped::Refused(why) => {
-            io::write_all(STDOUT_FILENO, b" refuse ");
-            io::print_decimal(STDOUT_FILENO, refusals::number_of(why) as u64);
-            io::write_all(STDOUT_FILENO, b"\n");
-        }
-    }
-}
-
 fn main() {
     let mut text = io::large_buffer();
     let got = io::read_full(STDIN_FILENO, &mut text);
     decode_lines(&text[..got]);
     try_work(1472);
     try_work(1471);
-    try_steps(76);
-    try_steps(77);
 }

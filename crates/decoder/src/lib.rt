@@ -83,7 +83,7 @@ pub fn decode(
     if !symbols::all_symbols(q, row) {
         return Decoded::Refused(Refusal::NoSymbol);
     }
-    if work.len() < steps::area_size(q) {
+    if work.len() < workarea::area_size(q) {
         return Decoded::Refused(Refusal::ShortWork);
     }
     if message.len() < curve::dimension(q, u) {

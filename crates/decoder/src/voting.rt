@@ -16,7 +16,7 @@ pub fn vote_all(q: usize, u: usize, row: &[u8], work: &mut [u8], votes: &mut [u8
     ensures { λ _. ⌜ now (votes .exit) ≡ voted q u (now (row .entry)) ++ drop (dimension q u) (now (votes .entry)) ⌝ }
 {
     let count = steps::step_count(q);
-    let size = steps::area_size(q);
+    let size = workarea::area_size(q);
     steps::advance(q, u, count, row, work, votes);
-    steps::clear(work, size);
+    workarea::clear(work, size);
 }

@@ -2,13 +2,15 @@
 -- Assumes nothing.
 use mathlib.Core.Path.{_≡_, refl, ap, sym, _∙_}
 use mathlib.Core.List.{List, [], _∷_, _++_, map}
-use Prim.Native.Nat.{ℕ, zero, suc, _+_, _*_, _<_}
+use mathlib.Core.Logic.{⊎-elim}
+use Prim.Native.Nat.{ℕ, zero, suc, _+_, _*_, _<_, _≤_}
 use native.Mathlib.Nat.{suc-mul, zero-mul, not-suc-le-zero, zero-add, add-suc, suc-add, add-zero}
 use native.Mathlib.Numerals.{add-one}
 use native.Mathlib.Omega.{arith}
-use lib.ListN.{length, getD, replicate, length-append, length-replicate, getD-replicate, List·getD-append}
+use lib.ListN.{length, getD, replicate, length-append, length-replicate, getD-replicate, List·getD-append, List·getD-eq-default}
 use lib.Seq.{ext-getD, getD-append-add}
 use Rattle.lists.specs.Tables.{from, tab, joinFrom, join}
+use Rattle.lists.proofs.Numbers.{lt-or-ge}
 
 module _ {ℓ} {A : Type ℓ} where
   -- a table that starts at i has as many elements as asked for
@@ -58,6 +60,14 @@ module _ {ℓ} {A : Type ℓ} where
   pub tab-const : (n : ℕ) (f : ℕ → A) (a : A) → ((k : ℕ) → k < n → f k ≡ a) → tab n f ≡ replicate n a
   tab-const n f a h =
       sym (tab-is a n f (replicate n a) (length-replicate n a) (λ k b. getD-replicate n k a a b ∙ sym (h k b)))
+
+  -- a list of one element again and again has it wherever it is read, past its end too
+  pub replicate-at : (n k : ℕ) (a : A) → getD (replicate n a) k a ≡ a
+  replicate-at n k a =
+      ⊎-elim
+      (λ (h : k < n). getD-replicate n k a a h)
+      (λ (h : n ≤ k). List·getD-eq-default (replicate n a) a (rw (length-replicate {A = A} n a) h))
+      (lt-or-ge k n)
 
   -- tables that start at i, of functions that agree below their end
   from-same : (i n : ℕ) (f g : ℕ → A) → ((k : ℕ) → k < i + n → f k ≡ g k) → from i n f ≡ from i n g

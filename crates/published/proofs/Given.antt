@@ -4,9 +4,8 @@ use mathlib.Core.Logic.{_≢_, _⊎_, ⊎-elim}
 use mathlib.Core.Bool.{true}
 use mathlib.Core.List.{List}
 use Prim.Native.Nat.{ℕ, _≤_, _<_}
-use native.Mathlib.Omega.{arith}
-use native.Mathlib.Decide.{decLt, ℕ-discrete}
-use lib.ListN.{length, getD, set, replicate, length-replicate, getD-replicate, List·getD-eq-default}
+use native.Mathlib.Decide.{ℕ-discrete}
+use lib.ListN.{length, getD, set, replicate}
 use lib.Seq.{getD-set-same, getD-set-other}
 use Rattle.algebra.specs.Symbols.{Symbols, Laws, sum}
 use Rattle.algebra.specs.Weights.{nongap}
@@ -17,7 +16,7 @@ use Rattle.curve.specs.Points.{Point}
 use Rattle.curve.specs.Codes.{nongaps, dimension}
 use Rattle.curve.specs.Rows.{messageAt}
 use Rattle.curve.specs.Ranks.{rank}
-use Rattle.lists.proofs.Tables.{getD-map}
+use Rattle.lists.proofs.Tables.{getD-map, replicate-at}
 use Rattle.curve.proofs.Ranks.{nongaps-at, nongaps-rank, rank-below}
 use Rattle.published.specs.Steps.{messageOf}
 
@@ -67,13 +66,7 @@ module _ {𝓢 : Symbols} {q : ℕ} (𝓛 : Laws 𝓢 q) (u : ℕ) (P : Point �
   unfolding term
   given-none n =
       given-sum (replicate n 𝟘) ∙ sum-none 𝓛 (dimension q u) (λ m hm.
-      ap (λ a. a ⊗ φ (getD (nongaps q u) m 0)) (zeros (getD (nongaps q u) m 0)) ∙ simp (units, 𝓛))
-    where
-      zeros : (s : ℕ) → getD (replicate n 𝟘) s 𝟘 ≡ 𝟘
-      zeros s = elim (decLt s n) [
-        | yes l ↦ getD-replicate n s 𝟘 𝟘 l
-        | no l ↦ List·getD-eq-default (replicate n 𝟘) 𝟘 (rw length-replicate (omega arith))
-      ]
+      ap (λ a. a ⊗ φ (getD (nongaps q u) m 0)) (replicate-at n (getD (nongaps q u) m 0) 𝟘) ∙ simp (units, 𝓛))
 
   -- a vote for a weight that had none
   module _ (votes : List K) (s : ℕ) (w : K) (within : s < length votes) (fresh : getD votes s 𝟘 ≡ 𝟘) where

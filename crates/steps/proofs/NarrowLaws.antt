@@ -17,9 +17,9 @@ use Rattle.symbols.specs.Rule.{symbols, Sym, number}
 use Rattle.published.specs.Start.{Polynomial, Polynomials, polynomial, polynomials, width, start, startPart, table, h}
 use Rattle.published.specs.Pairing.{Pairing, positivePart, negativePart}
 use Rattle.published.specs.Steps.{substitutedPart, substituted, raisedPart, reducedPart, replaced, exchanged, ratio, changed, noPair, updated, step, after}
-use Rattle.steps.specs.Area.{cellsOf, Narrow}
+use Rattle.workarea.specs.Area.{cellsOf, Narrow}
 use Rattle.steps.specs.Stop.{stateAfter}
-use Rattle.steps.proofs.Coefficients.{held, cell-held}
+use Rattle.workarea.proofs.Coefficients.{held, cell-held}
 
 module _ (q : ℕ) where
   -- a polynomial, and polynomials, with nothing past the width

@@ -13,16 +13,16 @@ use Rattle.published.specs.Pairing.{Pairing, isVoted, pairing, vote}
 use Rattle.published.specs.Steps.{substituted, updated, pairings, step, after}
 use Rattle.published.specs.Meaning.{voteOn}
 use Rattle.published.proofs.VotedWeights.{voted-no-gap}
-use Rattle.steps.specs.Area.{cellsOf, Starts, Narrow, Becomes}
-use Rattle.steps.specs.Heights.{Below, BecomesBelow}
-use Rattle.steps.specs.Pairs.{NumbersOf, pairAt}
+use Rattle.workarea.specs.Area.{cellsOf, Starts, Narrow, Becomes}
+use Rattle.workarea.specs.Heights.{Below, BecomesBelow}
+use Rattle.stepvotes.specs.Pairs.{NumbersOf, pairAt}
 use Rattle.steps.specs.Stop.{stateAfter, pictureAfter}
 use Rattle.steps.specs.Step.{voteAfter, Stepped, BelowAfter}
-use Rattle.steps.specs.declared.pairs.Pair.{Pair}
-use Rattle.steps.proofs.Cells.{picture-is}
-use Rattle.steps.proofs.ChangeLaws.{becomes-then}
+use Rattle.stepvotes.specs.declared.pairs.Pair.{Pair}
+use Rattle.workarea.proofs.Cells.{picture-is}
+use Rattle.workarea.proofs.Becoming.{becomes-then}
 use Rattle.steps.proofs.NarrowLaws.{narrow-after}
-use Rattle.steps.proofs.BelowLaws.{below-substituted}
+use Rattle.substitution.proofs.ReplaceLaws.{below-substituted}
 
 -- a vote that is not 0 is of a step at no gap
 pub vote-zero : (q u s vote : ℕ) (voted : Bool) → voted ≡ isVoted q u s → (voted ≡ false → vote ≡ 0) → (vote ≡ 0 → ⊥) → gap q s ≡ false

@@ -1,7 +1,3 @@
-pub mod Area
-pub mod Heights
-pub mod Pairs
 pub mod Stop
 pub mod Step
-pub mod StartArea
 pub mod Votes

@@ -6,8 +6,8 @@ use Prim.Native.Nat.{ℕ, _+_, _-_}
 use Rattle.symbols.specs.Rule.{symbols, number}
 use Rattle.published.specs.Start.{startWeight}
 use Rattle.published.specs.Meaning.{voteOn}
-use Rattle.steps.specs.Area.{cellsOf}
-use Rattle.steps.specs.Heights.{Below}
+use Rattle.workarea.specs.Area.{cellsOf}
+use Rattle.workarea.specs.Heights.{Below}
 use Rattle.steps.specs.Stop.{stateAfter, pictureAfter}
 
 -- "vote w" of the step after t steps, as a number; that step is at the start weight less t

@@ -1,10 +1,6 @@
 // The stop service: any number of steps on a received row, with the picture and the votes that they leave.
 use crate::Stopped;
-use crate::area;
-use crate::heights;
-use crate::start;
 use crate::step;
-use crate::votes;
 use refusals::Refusal;
 ghost use mathlib.Core.Path.{_≡_};
 ghost use mathlib.Core.List.{List, _++_};
@@ -27,7 +23,7 @@ fn note_vote(q: usize, u: usize, done: usize, left: usize, vote: u8, votes: &mut
     ensures { λ r. ⌜ now (votes .exit) ≡ noted q u done vote (now (votes .entry)) ⌝ }
 {
     let s = step::start_weight(q) - done;
-    if votes::is_voted(q, u, s) {
+    if stepvotes::is_voted(q, u, s) {
         let place = left - 1;
         votes[place] = vote;
         return place;
@@ -43,7 +39,7 @@ fn take_steps(table: &[u8], q: usize, u: usize, steps: usize, work: &mut [u8], v
         → (now (work .exit) ≡ pictureAfter q u row steps ++ rest) × (now (votes .exit) ≡ votesAfter q u row steps ++ rest′)) ⌝ }
 {
     let mut left = curve::dimension(q, u);
-    let mut heights = heights::start_heights(q);
+    let mut heights = workarea::start_heights(q);
     for done in 0..steps {
         let vote = step::take_step(table, q, u, done, work, &mut heights);
         left = note_vote(q, u, done, left, vote, votes);
@@ -57,8 +53,8 @@ pub fn advance(q: usize, u: usize, steps: usize, row: &[u8], work: &mut [u8], vo
     ensures { λ _. ⌜ now (votes .exit) ≡ votesAfter q u (now (row .entry)) steps ++ drop (dimension q u) (now (votes .entry)) ⌝ }
 {
     let table = symbols::table_of(q);
-    start::begin(&table, q, row, work);
-    start::clear(votes, curve::dimension(q, u));
+    startarea::begin(&table, q, row, work);
+    workarea::clear(votes, curve::dimension(q, u));
     take_steps(&table, q, u, steps, work, votes);
 }
 
@@ -92,7 +88,7 @@ pub fn stop(
     if !symbols::all_symbols(q, row) {
         return Stopped::Refused(Refusal::NoSymbol);
     }
-    if work.len() < area::area_size(q) {
+    if work.len() < workarea::area_size(q) {
         return Stopped::Refused(Refusal::ShortWork);
     }
     if output.len() < curve::dimension(q, u) {

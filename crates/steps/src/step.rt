@@ -1,8 +1,4 @@
 // One step of the published decoder on a picture in the work area.
-use crate::pairs;
-use crate::products;
-use crate::update;
-use crate::votes;
 ghost use mathlib.Core.Path.{_≡_};
 ghost use mathlib.Core.List.{List, _++_};
 ghost use Prim.Native.Nat.{ℕ, _+_, _<_, _≤_};
@@ -12,7 +8,7 @@ ghost use Rattle.symbols.specs.Tables.{HasProducts};
 ghost use Rattle.published.specs.Start.{startWeight, stepCount};
 ghost use Rattle.published.specs.Picture.{areaSize};
 ghost use Rattle.steps.specs.Stop.{pictureAfter};
-ghost use Rattle.steps.specs.Heights.{Heights};
+ghost use Rattle.workarea.specs.Heights.{Heights};
 ghost use Rattle.steps.specs.Step.{Stepped, BelowAfter};
 
 // The weight of the first step.
@@ -47,10 +43,10 @@ pub fn take_step(
         → Stepped q u row done rest vote (now (work .exit)) × BelowAfter q u row (done + 1) (now (heights .exit))) ⌝ }
 {
     let s = start_weight(q) - done;
-    let voted = votes::is_voted(q, u, s);
-    let pairs = pairs::pairs_of(table, &work[..], q, &heights[..], s, voted);
-    let vote = votes::vote_of(pairs, q, voted);
-    products::substitute(table, work, q, &heights[..], s, vote);
-    update::change_all(table, work, q, heights, pairs, vote);
+    let voted = stepvotes::is_voted(q, u, s);
+    let pairs = stepvotes::pairs_of(table, &work[..], q, &heights[..], s, voted);
+    let vote = stepvotes::vote_of(pairs, q, voted);
+    substitution::substitute(table, work, q, &heights[..], s, vote);
+    updates::change_all(table, work, q, heights, pairs, vote);
     vote
 }

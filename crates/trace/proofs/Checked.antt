@@ -22,9 +22,9 @@ use Rattle.published.specs.Start.{stepCount}
 use Rattle.published.specs.Picture.{areaSize, cellNumber, picture}
 use Rattle.steps.specs.declared.Stopped.{Stopped}
 use Rattle.steps.specs.declared.Stopped.the-variants.{Done, Refused}
-use Rattle.steps.specs.Area.{Starts, cellsOf, numbers, shown}
+use Rattle.workarea.specs.Area.{Starts, cellsOf, numbers, shown}
 use Rattle.steps.specs.Stop.{stateAfter, stopChecks, stopAnswer, stopWork, pictureAfter}
-use Rattle.steps.proofs.Sizes.{sizes}
+use Rattle.workarea.proofs.Sizes.{sizes}
 use Rattle.decoder.specs.declared.Decoded.{Decoded}
 use Rattle.decoder.specs.declared.Decoded.the-variants.{Accepted, Refused as Rejected}
 use Rattle.decoder.specs.Decoding.{decodeChecks, decodeAnswer, decodeMessage, decoded, ifAccepted, voted}

@@ -17,7 +17,7 @@ use Rattle.symbols.specs.Rule.{symbols, number}
 use Rattle.published.specs.Start.{Polynomials, width}
 use Rattle.published.specs.Pairing.{isVoted, degree, degreeOf, degreeF, degreeG}
 use Rattle.published.specs.Steps.{State}
-use Rattle.steps.specs.Area.{cellsOf}
+use Rattle.workarea.specs.Area.{cellsOf}
 use Rattle.lines.specs.Text.{digits, spaced}
 use Rattle.trace.specs.Trace.{voteText, voteAt, degrees, stepLine}
 use Rattle.trace.specs.Walk.{leader}

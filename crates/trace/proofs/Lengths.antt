@@ -25,7 +25,7 @@ use Rattle.steps.specs.Stop.{stateAfter}
 use Rattle.decoder.specs.declared.Decoded.{Decoded}
 use Rattle.decoder.specs.declared.Decoded.the-variants.{Accepted, Refused}
 use Rattle.decoder.specs.Decoding.{countOf, judgement, voted, decoded}
-use Rattle.steps.proofs.Sizes.{sizes}
+use Rattle.workarea.proofs.Sizes.{sizes}
 use Rattle.trace.specs.Request.{line, Said, asks, nothing, reading}
 use Rattle.trace.specs.Trace.{refuseLine, acceptLine, voteText, voteAt, degrees, stepLine, stepLines, lastLine, rowLines, traceChecks, answer, answerTo, traceText}
 use Rattle.trace.proofs.Written.{length-first, length-spaced}

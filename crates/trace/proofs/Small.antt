@@ -15,7 +15,7 @@ use Rattle.curve.specs.Codes.{pointCount, dimension, nongaps}
 use Rattle.published.specs.Start.{Polynomials, width, stepCount}
 use Rattle.published.specs.Pairing.{degree, degreeOf, degreeF, degreeG}
 use Rattle.published.specs.Steps.{State, messageOf}
-use Rattle.steps.proofs.Sizes.{sizes}
+use Rattle.workarea.proofs.Sizes.{sizes}
 use Rattle.trace.specs.Trace.{voteAt, degrees}
 use Rattle.steps.specs.Stop.{stateAfter, votesAfter}
 use Rattle.decoder.specs.Decoding.{voted}

@@ -15,13 +15,13 @@ use Rattle.published.specs.Pairing.{vote}
 use Rattle.published.specs.Steps.{pairings, step, after}
 use Rattle.published.specs.Meaning.{voteOn}
 use Rattle.published.specs.Picture.{cellNumber, picture}
-use Rattle.steps.specs.Area.{Starts, cellsOf, numbers, shown}
+use Rattle.workarea.specs.Area.{Starts, cellsOf, numbers, shown}
 use Rattle.steps.specs.Stop.{stateAfter, pictureAfter}
 use Rattle.steps.specs.Step.{voteAfter, Stepped}
 use Rattle.decoder.specs.Decoding.{voted, decoded}
 use Rattle.trace.specs.Request.{line}
 use Rattle.trace.specs.Trace.{voteAt, stepLine, stepLines, lastLine, rowLines}
-use Rattle.steps.proofs.Sizes.{sizes}
+use Rattle.workarea.proofs.Sizes.{sizes}
 
 -- step t + 1 is at the start weight less t
 pub weight-is : (q t : ℕ) {count : ℕ} → count ≡ stepCount q → count - 1 - t ≡ startWeight q - t

@@ -9,7 +9,7 @@ use lib.ListN.{length}
 use Rattle.symbols.specs.Rule.{Known, symbols, anyBeyond}
 use Rattle.curve.specs.Codes.{pointCount, isCode}
 use Rattle.published.specs.Steps.{State}
-use Rattle.steps.specs.Area.{Starts, cellsOf}
+use Rattle.workarea.specs.Area.{Starts, cellsOf}
 use Rattle.trace.specs.Trace.{voteAt}
 
 -- a code, and a full row of its symbols: what passes the checks

@@ -1,13 +1,13 @@
 // The line of a step, from the work area after it.
 use crate::report::put_step;
-use steps::is_voted;
-use steps::leading_of;
+use stepvotes::is_voted;
+use stepvotes::leading_of;
 ghost use mathlib.Core.Path.{_≡_};
 ghost use Prim.Native.Nat.{_+_, _*_, _≤_, _<_};
 ghost use lib.ListN.{length, take};
 ghost use Rattle.symbols.specs.Rule.{symbols};
 ghost use Rattle.published.specs.Start.{Polynomials};
-ghost use Rattle.steps.specs.Area.{Area, Starts, cellsOf};
+ghost use Rattle.workarea.specs.Area.{Area, Starts, cellsOf};
 ghost use Rattle.lines.specs.Text.{Wrote};
 ghost use Rattle.published.specs.Steps.{State};
 ghost use Rattle.trace.specs.Trace.{degrees as Trace·degrees, voteAt, stepLine};

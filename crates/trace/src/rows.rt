@@ -7,19 +7,18 @@ use curve::dimension;
 use decoder::Decoded;
 use decoder::decode;
 use steps::Stopped;
-use steps::start_heights;
 use steps::step_count;
 use steps::stop;
 use steps::take_step;
+use workarea::start_heights;
 ghost use Prim.Native.Nat.{_+_, _≤_};
 ghost use lib.ListN.{length};
 ghost use Rattle.lines.specs.Text.{Wrote};
-ghost use Rattle.steps.specs.Area.{Starts, cellsOf};
+ghost use Rattle.workarea.specs.Area.{Starts, cellsOf};
 ghost use Rattle.steps.specs.Stop.{stateAfter};
 ghost use Rattle.decoder.specs.Decoding.{voted, decoded};
-ghost use Rattle.trace.specs.Trace.{lastLine, rowLines};
+ghost use Rattle.trace.specs.Trace.{lastLine, rowLines, answer as Trace·answer};
 ghost use Rattle.trace.specs.Walk.{Full};
-ghost use Rattle.trace.specs.Trace.{answer as Trace·answer};
 
 // The last line: what decoding the row answers.
 fn put_last(out: &mut [u8], at: usize, q: usize, u: usize, row: &[u8], work: &mut [u8]) -> usize

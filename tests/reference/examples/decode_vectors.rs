@@ -2,7 +2,7 @@
 //!
 //! `cargo run --example decode_vectors -- rows` prints the program's `stdin`, `-- answers` its `stdout`.
 
-use reference::calls::{decode, stop};
+use reference::calls::decode;
 use reference::curve::Code;
 use reference::samples::Random;
 
@@ -80,20 +80,12 @@ fn answer(code: &Code, row: &[u8], area: usize) -> String {
     )
 }
 
-/// "76 steps pass, 77 gives 3. Work of 1,472 passes, 1,471 gives 6."
+/// A work area that is just long enough, and one that is a place too short.
 fn edges() {
     let code = Code::named(4, 45).expect("the tape code");
     let row = [0; 64];
     for area in [1472, 1471] {
         println!("work {area} {}", answer(&code, &row, area));
-    }
-    for steps in [76, 77] {
-        let (mut work, mut votes) = ([UNTOUCHED; 1472], [UNTOUCHED; 40]);
-        let told = match stop(4, 45, steps, &row, &mut work, &mut votes) {
-            Ok(()) => "done".to_string(),
-            Err(refusal) => format!("refuse {refusal}"),
-        };
-        println!("steps {steps} {told}");
     }
 }
 

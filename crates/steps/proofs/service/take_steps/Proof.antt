@@ -8,12 +8,12 @@ use native.Mathlib.Omega.{arith}
 use lib.ListN.{length}
 use borrow.Author.Needs.{needs}
 use Rattle.published.specs.Start.{stepCount}
-use Rattle.steps.specs.Heights.{Heights}
+use Rattle.workarea.specs.Heights.{Heights}
 use Rattle.steps.specs.Step.{BelowAfter}
 use Rattle.steps.specs.Stop.{pictureAfter, votesAfter}
 use Rattle.steps.specs.Votes.{votesBelow, noted}
-use Rattle.steps.proofs.HeightLaws.{start-many}
-use Rattle.steps.proofs.BelowLaws.{below-start}
+use Rattle.workarea.proofs.HeightLaws.{start-many}
+use Rattle.steps.proofs.StartHeights.{below-start}
 use Rattle.steps.proofs.VotePlaces.{below-all, below-le, code-stepped, noted-next}
 use Rattle.steps.proofs.service.take_steps.Statement.{statement}
 use Rattle.steps.proofs.service.take_steps.Tie as tie

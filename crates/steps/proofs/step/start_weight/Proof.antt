@@ -2,7 +2,7 @@
 -- Assumes nothing.
 use native.Mathlib.Omega.{arith}
 use Rattle.published.specs.Start.{startWeight}
-use Rattle.steps.proofs.Sizes.{sizes}
+use Rattle.workarea.proofs.Sizes.{sizes}
 use borrow.Author.Needs.{needs}
 use Rattle.steps.proofs.step.start_weight.Statement.{statement}
 use Rattle.steps.proofs.step.start_weight.Tie as tie

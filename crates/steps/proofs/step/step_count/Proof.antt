@@ -4,7 +4,7 @@ use mathlib.Core.Path.{ap}
 use Prim.Native.Nat.{ℕ, _+_}
 use native.Mathlib.Omega.{arith}
 use Rattle.published.specs.Start.{stepCount}
-use Rattle.steps.proofs.Sizes.{sizes}
+use Rattle.workarea.proofs.Sizes.{sizes}
 use borrow.Author.Needs.{needs}
 use Rattle.steps.proofs.step.step_count.Statement.{statement}
 use Rattle.steps.proofs.step.step_count.Tie as tie

@@ -4,8 +4,8 @@ use native.Mathlib.Omega.{arith}
 use mathlib.Core.Path.{ap}
 use Prim.Native.Nat.{ℕ, _-_}
 use Rattle.published.specs.Start.{stepCount}
-use Rattle.steps.proofs.Cells.{still}
-use Rattle.steps.proofs.Sizes.{sizes, area-of}
+use Rattle.workarea.proofs.Cells.{still}
+use Rattle.workarea.proofs.Sizes.{sizes, area-of}
 use Rattle.steps.proofs.StepLaws.{vote-zero, assembled}
 use borrow.Author.Needs.{needs}
 use Rattle.steps.proofs.step.take_step.Statement.{statement}

@@ -9,7 +9,7 @@ use Rattle.lists.proofs.Put.{put-none}
 use Rattle.symbols.specs.Rule.{symbols, number}
 use Rattle.published.specs.Start.{Polynomials, width}
 use Rattle.published.specs.Pairing.{degree}
-use Rattle.steps.specs.Area.{Starts, cellsOf}
+use Rattle.workarea.specs.Area.{Starts, cellsOf}
 use Rattle.trace.proofs.LeadingRows.{rowDegree, row-read, rows-read}
 use Rattle.trace.proofs.leading.read_degrees.Statement.{statement}
 use Rattle.trace.proofs.leading.read_degrees.Tie as tie

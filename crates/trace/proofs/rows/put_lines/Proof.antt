@@ -11,13 +11,13 @@ use lib.ListN.{length}
 use Rattle.lines.specs.Text.{Wrote}
 use Rattle.lines.proofs.Writing.{wrote-nothing}
 use Rattle.published.specs.Start.{stepCount}
-use Rattle.steps.specs.Area.{Starts, cellsOf}
-use Rattle.steps.specs.Heights.{Heights}
+use Rattle.workarea.specs.Area.{Starts, cellsOf}
+use Rattle.workarea.specs.Heights.{Heights}
 use Rattle.steps.specs.Step.{BelowAfter}
 use Rattle.steps.specs.Stop.{stateAfter}
-use Rattle.steps.proofs.Sizes.{sizes, area-of}
-use Rattle.steps.proofs.HeightLaws.{start-many}
-use Rattle.steps.proofs.BelowLaws.{below-start}
+use Rattle.workarea.proofs.Sizes.{sizes, area-of}
+use Rattle.workarea.proofs.HeightLaws.{start-many}
+use Rattle.steps.proofs.StartHeights.{below-start}
 use Rattle.trace.specs.Request.{line}
 use Rattle.trace.specs.Trace.{voteAt, stepLines}
 use Rattle.trace.proofs.Lengths.{length-code-line, length-steps}

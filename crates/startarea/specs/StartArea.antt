@@ -1,0 +1,75 @@
+-- The work area on its way to the polynomials before the first step. Document 01, "The decoder's steps": "h is the one function
+-- with x-degree below q² and y-degree below q that takes the row's symbols at the points", "g_i = y^i(x^(q²) - x)" and
+-- "f_i = y^i(z - h)".
+-- Assumes nothing.
+use mathlib.Core.Path.{_≡_}
+use mathlib.Core.Bool.{true, false}
+use mathlib.Core.List.{List}
+use Prim.Native.Nat.{ℕ, _+_, _-_, _*_, _/_, _%_, _<_}
+use lib.Bits.{bitXor}
+use lib.Dec.{eqb, ltb}
+use lib.ListN.{getD}
+use Rattle.algebra.specs.Symbols.{Symbols, power, sum}
+use Rattle.algebra.specs.Interpolation.{unit, xPart, yPart}
+use Rattle.lists.specs.Tables.{put}
+use Rattle.symbols.specs.Rule.{symbols, number}
+use Rattle.curve.specs.Points.{pointAt}
+use Rattle.published.specs.Start.{width, vanishing, one, startPart}
+use Rattle.workarea.specs.Area.{Cells, withRows}
+use Rattle.substitution.specs.Products.{productAdded}
+
+-- the byte at `to` plus a value times what `products` is the table row of
+abbrev pub plusValue : List ℕ → ℕ → List ℕ → List ℕ → ℕ → ℕ
+plusValue l to values products i = bitXor (getD l (to + i) 0) (getD products (getD values i 0 % 16) 0)
+
+-- the n bytes from `to` on with a multiple of the values added
+unfoldable pub plusValues : List ℕ → ℕ → ℕ → List ℕ → List ℕ → List ℕ
+plusValues l to n values products = put l to n (plusValue l to values products)
+
+module _ (q : ℕ) where
+  infixl 65 _⊕_
+  infixl 70 _⊗_
+  open Symbols (symbols q) using (K, 𝟘, 𝟙, _⊕_, _⊗_, symbol)
+
+  -- n bytes that are the numbers of F
+  pub record Holds (l : List ℕ) (n : ℕ) (F : ℕ → K) : Type 0 where
+    pub at : (i : ℕ) → i < n → getD l i 0 ≡ number q (F i)
+
+  -- the two parts of the function that is one at a point have this form, the one in x with n = q², the one in y with n = q
+  unfoldable pub partOf : ℕ → K → ℕ → K
+  partOf n a i = unit (symbols q) (eqb i 0) ⊕ power (symbols q) a (n - 1 - i)
+
+  unfoldable pub plusPart : ℕ → K → K → (ℕ → K) → ℕ → K
+  plusPart n a ρ F i = F i ⊕ ρ ⊗ partOf n a i
+
+  -- the received symbols above the x with number a, times the parts in y of their points: the coefficient of y^j
+  unfoldable pub columnSum : List ℕ → ℕ → ℕ → ℕ → K
+  columnSum row a n j = sum (symbols q) n (λ b. symbol (getD row (a * q + b) 0) ⊗ yPart (symbols q) q (pointAt (symbols q) q (a * q + b) .y) j)
+
+  -- what the points above that x give to h
+  unfoldable pub columnOf : List ℕ → ℕ → ℕ → ℕ → K
+  columnOf row a j i = elim (ltb i (q * q)) [ true ↦ columnSum row a q j ⊗ xPart (symbols q) q (symbol a) i | false ↦ 𝟘 ]
+
+  -- what the points above the first n x give
+  unfoldable pub columnsOf : List ℕ → ℕ → ℕ → ℕ → K
+  columnsOf row n j i = sum (symbols q) n (λ a. columnOf row a j i)
+
+  -- n rows of polynomial p, from row d on, become themselves plus those of G
+  unfoldable pub rowsPlus : ℕ → ℕ → ℕ → (ℕ → ℕ → K) → Cells q → Cells q
+  rowsPlus p d n G S = withRows q p d n (λ j i. S p (d + j) i ⊕ G j i) S
+
+  -- an area of zeros
+  unfoldable pub blank : Cells q
+  blank p r i = 𝟘
+
+  -- with x^(q²) - x in the lower part of g_0, and 1 in the upper part of f_0
+  unfoldable pub firsts : Cells q
+  firsts = withRows q 0 q 1 (λ n. vanishing (symbols q) q 0) (withRows q q 0 1 (λ n. one (symbols q) q 0) blank)
+
+  -- the first n of the g_i and of the f_i in their places, with the coefficients of h, and zeros for the others
+  unfoldable pub begun : List (List K) → ℕ → Cells q
+  begun h n p r i = elim (ltb (p % q) n) [ true ↦ startPart (symbols q) q h p (r / q) (r % q) i | false ↦ 𝟘 ]
+
+  -- y^i times a part of polynomial `first` added to that of the polynomial i places on
+  abbrev pub multipleAdded : ℕ → ℕ → ℕ → Cells q → Cells q
+  multipleAdded first row i = productAdded q (record { polynomial = first + i; row = row }) (record { polynomial = first; row = row }) (width q) 0 i 𝟙 q

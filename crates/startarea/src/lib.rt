@@ -1,0 +1,156 @@
+// The polynomials before the first step: h by interpolation, g_0 and f_0, and their products by the powers of y.
+use substitution::Part;
+ghost use mathlib.Core.Path.{_≡_};
+ghost use mathlib.Core.Bool.{false};
+ghost use mathlib.Core.List.{List, _++_, map};
+ghost use Prim.Native.Nat.{ℕ, _+_, _*_, _<_, _≤_};
+ghost use lib.ListN.{length, drop};
+ghost use Rattle.symbols.specs.Rule.{Known, Sym, symbols, symbol, anyBeyond};
+ghost use Rattle.symbols.specs.Tables.{productRow, HasProducts};
+ghost use Rattle.curve.specs.Codes.{pointCount};
+ghost use Rattle.published.specs.Start.{start};
+ghost use Rattle.published.specs.Picture.{areaSize, picture};
+ghost use Rattle.workarea.specs.Area.{Area, Turns, shown};
+ghost use Rattle.startarea.specs.StartArea.{plusValues, Holds, plusPart, columnSum, columnOf, columnsOf, rowsPlus, blank, firsts, begun, multipleAdded};
+
+// Puts x^(q²) - x in the lower part of g_0 and 1 in the upper part of f_0; minus equals plus.
+fn put_firsts(work: &mut [u8], q: usize)
+    requires { ⌜ Area q (length (now work)) ⌝ }
+    ensures { λ _. ⌜ ((rest : List ℕ) → now (work .entry) ≡ shown q (blank q) ++ rest → now (work .exit) ≡ shown q (firsts q) ++ rest) ⌝ }
+{
+    let one = workarea::row_place(q, q, 0);
+    work[one] = 1;
+    let vanishing = workarea::row_place(q, 0, q);
+    work[vanishing + 1] = 1;
+    work[vanishing + q * q] = 1;
+}
+
+// Adds `factor` times 1 + Σ x^i·a^(n-1-i) to a sum of powers of x below n, by the products of a. Going down, the powers of a
+// rise.
+fn add_part(sums: [u8; 16], q: usize, n: usize, products: [u8; 16], factor: u8) -> [u8; 16]
+    requires { ⌜ Known q ⌝ }
+    requires { ⌜ (0 < n) × (n ≤ 16) × (factor < q * q) ⌝ }
+    ensures { λ r. ⌜ ((a : ℕ) (F : ℕ → Sym q) → products ≡ productRow q a → Holds q sums n F → Holds q r n (plusPart q n (symbol q a) (symbol q factor) F)) ⌝ }
+{
+    let mut result = sums;
+    let mut term = factor;
+    let mut i = n;
+    while 0 < i {
+        i -= 1;
+        result[i] = result[i] ^ term;
+        term = products[(term % 16) as usize];
+    }
+    result[0] = result[0] ^ factor;
+    result
+}
+
+// The received symbols above the x with number a, times the parts in y of their points.
+fn column_sums(table: &[u8], q: usize, row: &[u8], a: usize) -> [u8; 16]
+    requires { ⌜ Known q ⌝ }
+    requires { ⌜ (length (now row) ≡ pointCount q) × (anyBeyond q (now row) ≡ false) × HasProducts q (now table) ⌝ }
+    requires { ⌜ a < q * q ⌝ }
+    ensures { λ r. ⌜ Holds q r q (columnSum q (now (row .entry)) a q) ⌝ }
+{
+    let ordinates = curve::ordinates(q, symbols::products_in(table, q, a as u8));
+    let mut sums = [0u8; 16];
+    for b in 0..q {
+        let products = symbols::products_in(table, q, ordinates[b]);
+        let more = add_part(sums, q, q, products, row[a * q + b]);
+        sums = more;
+    }
+    sums
+}
+
+// Adds to the n bytes from `to` on the values, each times what `products` is the table row of.
+fn add_values(work: &mut [u8], to: usize, n: usize, values: [u8; 16], products: [u8; 16])
+    requires { ⌜ (to + n ≤ length (now work)) × (n ≤ 16) ⌝ }
+    ensures { λ _. ⌜ now (work .exit) ≡ plusValues (now (work .entry)) to n values products ⌝ }
+{
+    for i in 0..n {
+        let factor = (values[i] % 16) as usize;
+        work[to + i] = work[to + i] ^ products[factor];
+    }
+}
+
+// Adds to the lower part of f_0 what the points above the x with number a give to h.
+fn add_column(table: &[u8], work: &mut [u8], q: usize, row: &[u8], a: usize)
+    requires { ⌜ Area q (length (now work)) ⌝ }
+    requires { ⌜ (length (now row) ≡ pointCount q) × (anyBeyond q (now row) ≡ false) × HasProducts q (now table) ⌝ }
+    requires { ⌜ a < q * q ⌝ }
+    ensures { λ _. ⌜ Turns q (now (work .entry)) (now (work .exit)) (rowsPlus q q q q (columnOf q (now (row .entry)) a)) ⌝ }
+{
+    let sums = column_sums(table, q, row, a);
+    let powers = symbols::products_in(table, q, a as u8);
+    let values = add_part([0u8; 16], q, q * q, powers, 1);
+    for j in 0..q {
+        let products = symbols::products_in(table, q, sums[j]);
+        let to = workarea::row_place(q, q, q + j);
+        add_values(work, to, q * q, values, products);
+    }
+}
+
+// Adds h to the lower part of f_0; minus equals plus.
+fn add_h(table: &[u8], work: &mut [u8], q: usize, row: &[u8])
+    requires { ⌜ Area q (length (now work)) ⌝ }
+    requires { ⌜ (length (now row) ≡ pointCount q) × (anyBeyond q (now row) ≡ false) × HasProducts q (now table) ⌝ }
+    ensures { λ _. ⌜ Turns q (now (work .entry)) (now (work .exit)) (rowsPlus q q q q (columnsOf q (now (row .entry)) (q * q))) ⌝ }
+{
+    for a in 0..q * q {
+        add_column(table, work, q, row, a);
+    }
+}
+
+// Adds y^i times a part of polynomial `first` to that of the polynomial i places on.
+fn add_multiple(work: &mut [u8], q: usize, first: usize, row: usize, i: usize)
+    requires { ⌜ Area q (length (now work)) ⌝ }
+    requires { ⌜ (first ≤ q) × (row ≤ q) × (0 < i) × (i < q) ⌝ }
+    ensures { λ _. ⌜ Turns q (now (work .entry)) (now (work .exit)) (multipleAdded q first row i) ⌝ }
+{
+    let to = Part {
+        polynomial: first + i,
+        row,
+    };
+    let from = Part {
+        polynomial: first,
+        row,
+    };
+    let width = workarea::width_of(q);
+    substitution::add_product(work, q, to, from, width, 0, i, symbols::products_of(q, 1));
+}
+
+// Makes g_i and f_i of g_0 and f_0; g_i has no upper part.
+fn add_multiples(work: &mut [u8], q: usize, i: usize)
+    requires { ⌜ Area q (length (now work)) ⌝ }
+    requires { ⌜ (0 < i) × (i < q) ⌝ }
+    ensures { λ _. ⌜ ((h : List (List (Sym q))) (rest : List ℕ) → now (work .entry) ≡ shown q (begun q h i) ++ rest
+        → now (work .exit) ≡ shown q (begun q h (i + 1)) ++ rest) ⌝ }
+{
+    add_multiple(work, q, 0, q, i);
+    add_multiple(work, q, q, 0, i);
+    add_multiple(work, q, q, q, i);
+}
+
+// Makes all of them.
+fn add_all_multiples(work: &mut [u8], q: usize)
+    requires { ⌜ Area q (length (now work)) ⌝ }
+    ensures { λ _. ⌜ ((h : List (List (Sym q))) (rest : List ℕ) → now (work .entry) ≡ shown q (begun q h 1) ++ rest
+        → now (work .exit) ≡ shown q (begun q h q) ++ rest) ⌝ }
+{
+    for i in 1..q {
+        add_multiples(work, q, i);
+    }
+}
+
+// Puts the polynomials before the first step on a received row into the work area.
+pub fn begin(table: &[u8], q: usize, row: &[u8], work: &mut [u8])
+    requires { ⌜ Known q ⌝ }
+    requires { ⌜ (length (now row) ≡ pointCount q) × (anyBeyond q (now row) ≡ false) × HasProducts q (now table) ⌝ }
+    requires { ⌜ areaSize q ≤ length (now work) ⌝ }
+    ensures { λ _. ⌜ now (work .exit)
+        ≡ picture (symbols q) q (start (symbols q) q (map (symbol q) (now (row .entry)))) ++ drop (areaSize q) (now (work .entry)) ⌝ }
+{
+    workarea::clear(work, workarea::area_size(q));
+    put_firsts(work, q);
+    add_h(table, work, q, row);
+    add_all_multiples(work, q);
+}

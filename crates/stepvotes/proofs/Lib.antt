@@ -1,0 +1,4 @@
+pub mod Degrees
+pub mod Signed
+pub mod PairNumbers
+pub mod VoteLaws

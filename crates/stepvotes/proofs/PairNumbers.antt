@@ -1,0 +1,113 @@
+-- The numbers that the code finds for a pair are those of the definition.
+-- Assumes nothing.
+use mathlib.Core.Path.{_≡_, refl, sym, ap, _∙_}
+use mathlib.Core.Bool.{true, false}
+use Prim.Native.Nat.{ℕ, _+_, _*_, _%_}
+use lib.IntN.{pos, _-ℤ_}
+use Rattle.symbols.specs.Rule.{Known, symbols, Sym, number, symbol}
+use Rattle.symbols.proofs.FieldLaws.{laws-of}
+use Rattle.published.specs.Start.{Polynomials, coefficient, width}
+use Rattle.published.specs.Pairing.{Pairing, degree, degreeOf, degreeF, degreeG, leadF, leadG, kOf, partnerOf, isNegative, isVoted, positivePart, looked, pairing}
+use Rattle.workarea.specs.Area.{cellsOf}
+use Rattle.stepvotes.specs.Reading.{LeadingOf}
+use Rattle.stepvotes.specs.Pairs.{NumbersOf}
+use Rattle.stepvotes.specs.declared.reading.Leading.{Leading}
+use Rattle.stepvotes.specs.declared.pairs.Pair.{Pair}
+use Rattle.stepvotes.proofs.Degrees.{degree-cong}
+use Rattle.workarea.proofs.Coefficients.{upper-cell, lower-cell}
+
+module _ (q : ℕ) (S : Polynomials (symbols q) q) where
+  -- the leading symbol of f_i, and of g_i
+  pub degree-f : (i : ℕ) (f : Leading) → LeadingOf q f (cellsOf q S (q + i) i) → f .degree ≡ degreeF (symbols q) q S i
+  unfolding degreeF degreeOf
+  degree-f i f e = e .degree-is ∙ degree-cong _ _ (λ n. ap (number q) (sym (upper-cell q S (q + i) i n))) (width q)
+
+  pub lead-f : (i : ℕ) (f : Leading) → LeadingOf q f (cellsOf q S (q + i) i) → f .coefficient ≡ number q (leadF (symbols q) q S i)
+  unfolding leadF
+  lead-f i f e =
+      e .coefficient-is
+      ∙ ap (λ (n : ℕ). number q (cellsOf q S (q + i) i n)) (degree-f i f e)
+      ∙ ap (number q) (sym (upper-cell q S (q + i) i (degreeF (symbols q) q S i)))
+
+  pub degree-g : (i : ℕ) (g : Leading) → LeadingOf q g (cellsOf q S i (q + i)) → g .degree ≡ degreeG (symbols q) q S i
+  unfolding degreeG degreeOf
+  degree-g i g e = e .degree-is ∙ degree-cong _ _ (λ n. ap (number q) (sym (lower-cell q S i i n))) (width q)
+
+  pub lead-g : (i : ℕ) (g : Leading) → LeadingOf q g (cellsOf q S i (q + i)) → g .coefficient ≡ number q (leadG (symbols q) q S i)
+  unfolding leadG
+  lead-g i g e =
+      e .coefficient-is
+      ∙ ap (λ (n : ℕ). number q (cellsOf q S i (q + i) n)) (degree-g i g e)
+      ∙ ap (number q) (sym (lower-cell q S i i (degreeG (symbols q) q S i)))
+
+-- the code's quotient of two symbols
+pub quotient-is : (q : ℕ) → Known q → (r a m n : ℕ) (α β : Sym q) → a ≡ number q α → m ≡ number q β → n ≡ number q (symbols q .inverse (symbol q m))
+    → r ≡ number q (symbols q ._⊗_ (symbol q a) (symbol q n)) → r ≡ number q (symbols q ._⊗_ α (symbols q .inverse β))
+quotient-is q known r a m n α β ea em en er =
+    let back = laws-of q known .symbol-number in
+    er ∙ (rw (en, ea, em, back α, back β, back (symbols q .inverse β)))
+
+-- minus is no other function than the symbol itself
+minus-same : (q : ℕ) (a : Sym q) → symbols q .minus a ≡ a
+unfolding symbols
+minus-same q a = refl
+
+module _ (q : ℕ) (known : Known q) (S : Polynomials (symbols q) q) (u s i : ℕ) (f g : Leading) (ef : LeadingOf q f (cellsOf q S (q + i) i))
+    (eg : LeadingOf q g (cellsOf q S ((q * f .degree + (q + 1) * i + s) % q) (q + (q * f .degree + (q + 1) * i + s) % q))) where
+  abbrev total : ℕ
+  total = q * f .degree + (q + 1) * i + s
+
+  abbrev P : Pairing (symbols q) q
+  P = pairing (symbols q) q u s S i
+
+  -- the coefficient looked at
+  abbrev b : Sym q
+  b = cellsOf q S (q + i) (q + total % q) (positivePart (kOf q total))
+
+  total-is : q * degreeF (symbols q) q S i + (q + 1) * i + s ≡ total
+  total-is = ap (λ (n : ℕ). q * n + (q + 1) * i + s) (sym (degree-f q S i f ef))
+
+  partner-is : total % q ≡ P .partner
+  unfolding pairing partnerOf
+  partner-is = rw total-is
+
+  c-is : pos (g .degree) -ℤ kOf q total ≡ P .c
+  unfolding pairing partnerOf
+  c-is = rw (total-is, degree-g q S (total % q) g eg)
+
+  ν-is : g .coefficient ≡ number q (P .ν)
+  unfolding pairing partnerOf
+  ν-is = rw total-is (lead-g q S (total % q) g eg)
+
+  looked-is : looked (symbols q) q S i (total % q) (kOf q total) ≡ b
+  unfolding looked
+  looked-is = lower-cell q S (q + i) (total % q) (positivePart (kOf q total))
+
+  module _ (pair : Pair) (ep : pair .partner ≡ total % q) (ec : pair .c ≡ pos (g .degree) -ℤ kOf q total) (en : pair .nu ≡ g .coefficient) where
+    made : pair .w ≡ number q (P .w) → pair .mu ≡ number q (P .μ) → NumbersOf q pair P
+    made ew em = record { partner = ep ∙ partner-is; c = ec ∙ c-is; w = ew; μ = em; ν = en ∙ ν-is }
+
+    -- k is negative
+    pub pair-negative : isNegative (kOf q total) ≡ true → pair .w ≡ 0 → pair .mu ≡ 1 → NumbersOf q pair P
+    unfolding pairing partnerOf
+    pair-negative t ew em =
+        made
+        (ew ∙ (rw (total-is, t) (sym (laws-of q known .number-zero))))
+        (em ∙ (rw (total-is, t) (sym (laws-of q known .number-one))))
+
+    -- a voted step
+    pub pair-voted : isNegative (kOf q total) ≡ false → isVoted q u s ≡ true
+        → pair .w ≡ number q (symbols q ._⊗_ b (symbols q .inverse (leadF (symbols q) q S i))) → pair .mu ≡ f .coefficient → NumbersOf q pair P
+    unfolding pairing partnerOf
+    pair-voted t v ew em =
+        made
+        (ew ∙ (rw (total-is, t, v, looked-is, minus-same q b)))
+        (em ∙ (rw (total-is, t, v) (lead-f q S i f ef)))
+
+    -- a step with no vote
+    pub pair-plain : isNegative (kOf q total) ≡ false → isVoted q u s ≡ false → pair .w ≡ number q b → pair .mu ≡ 1 → NumbersOf q pair P
+    unfolding pairing partnerOf
+    pair-plain t v ew em =
+        made
+        (ew ∙ (rw (total-is, t, v, looked-is, minus-same q b)))
+        (em ∙ (rw (total-is, t, v) (sym (laws-of q known .number-one))))

@@ -1,0 +1,219 @@
+-- Each of the three ways out gives the numbers of the pairing.
+-- Assumes nothing.
+use mathlib.Core.Path.{_≡_, refl, ap, _∙_}
+use Prim.Native.Nat.{ℕ, _+_, _*_, _≤_}
+use native.Mathlib.Nat.{mul-le-mul}
+use native.Mathlib.Omega.{arith}
+use lib.IntN.{ℤ, pos, _-ℤ_, natAbs}
+use mir.Syntax.{w64}
+use mir.Val.{toZ, ofZ}
+use Rattle.published.specs.Pairing.{kOf}
+use lib.ListN.{getD}
+use denote.Ref.{now}
+use Rattle.symbols.specs.Rule.{symbols}
+use Rattle.published.specs.Start.{Polynomials}
+use Rattle.workarea.specs.Area.{cellsOf}
+use Rattle.stepvotes.specs.Reading.{Short}
+use Rattle.workarea.specs.Heights.{Below}
+use Rattle.stepvotes.specs.Pairs.{Held}
+use Rattle.stepvotes.proofs.Signed.{Divided, divided, k-small, back, less-small, less-fits, less-value, negative-yes, negative-no, cast-fits}
+use Rattle.stepvotes.proofs.PairNumbers.{lead-f, quotient-is, pair-negative, pair-voted, pair-plain}
+use borrow.Author.Needs.{needs}
+use Rattle.stepvotes.proofs.pairs.pair_of.Statement.{statement}
+use Rattle.stepvotes.proofs.pairs.pair_of.Tie as tie
+
+-- the sum that is divided
+abbrev total : tie.After-leading-below → ℕ
+total c = let s = c .before .before .before .before .before in s .args .q * c .leading-below .result .degree + (s .args .q + 1) * s .args .i + s .args .s
+
+-- how large its parts are
+record Small (q a i s : ℕ) : Type 0 where
+  first : q * a ≤ 4 * 23
+  second : (q + 1) * i ≤ 5 * 4
+  all : q * a + (q + 1) * i + s ≤ 1000
+
+small : (c : tie.After-leading-below) → let s = c .before .before .before .before .before in Small (s .args .q) (c .leading-below .result .degree) (s .args .i) (s .args .s)
+small c =
+    let s = c .before .before .before .before .before in
+    let first = mul-le-mul {n₁ = s .args .q} {m₁ = c .leading-below .result .degree} {n₂ = 4} {m₂ = 23} (omega (arith, s .pre .0 .few)) (omega (arith, s .pre .0 .narrow, c .leading-below .ensures .0)) in
+    let second = mul-le-mul {n₁ = s .args .q + 1} {m₁ = s .args .i} {n₂ = 5} {m₂ = 4} (omega (arith, s .pre .0 .few)) (omega (arith, s .pre .0 .few)) in
+    record { first = first; second = second; all = omega arith }
+
+parts : (c : tie.After-leading-below) → Divided (c .before .before .before .before .before .args .q) (total c)
+parts c = divided _ _ (c .before .before .before .before .before .pre .0 .known) (small c .all)
+
+-- the height is that of the upper row that is read
+short : (c : tie.After-leading-below) → let s = c .before .before .before .before .before in
+    (S : Polynomials (symbols (s .args .q)) (s .args .q)) → Below (s .args .q) (now (s .args .heights)) (cellsOf (s .args .q) S)
+    → Short (s .args .q) (getD (now (s .args .heights)) (s .args .q + s .args .i) 0) (cellsOf (s .args .q) S (s .args .q + s .args .i) (s .args .i))
+short c S below =
+    let s = c .before .before .before .before .before in
+    record { zeros = λ n h l. below .above _ _ n (omega (arith, s .pre .1 .1 .0)) (s .pre .1 .1 .0) l h }
+
+-- k is the definition's, and small
+module _ (c : tie.After-leading-of) where
+  abbrev k : ℤ
+  k = c .before .quotient-of .result
+
+  abbrev kIs : ℤ
+  kIs = kOf (c .before .before .before .before .before .before .before .before .args .q) (total (c .before .before .before))
+
+  low : natAbs k ≤ 1000
+  low = rw (c .before .quotient-of .ensures) (k-small _ _ (parts (c .before .before .before)))
+
+  degree : c .leading-of .result .degree ≤ 1000
+  degree = omega (arith, c .before .before .before .before .before .before .before .before .pre .0 .narrow, c .leading-of .ensures .0)
+
+  c-is : toZ w64 (ofZ w64 (toZ w64 (c .leading-of .result .degree) -ℤ toZ w64 (ofZ w64 k))) ≡ pos (c .leading-of .result .degree) -ℤ kIs
+  c-is = less-value _ k degree low ∙ ap (λ (z : ℤ). pos (c .leading-of .result .degree) -ℤ z) (c .before .quotient-of .ensures)
+
+  c-small : natAbs (toZ w64 (ofZ w64 (toZ w64 (c .leading-of .result .degree) -ℤ toZ w64 (ofZ w64 k)))) ≤ 2000
+  c-small = rw (less-value _ k degree low) (less-small _ k degree low)
+
+  k-is : toZ w64 (ofZ w64 k) ≡ kIs
+  k-is = back k (omega (arith, low)) ∙ c .before .quotient-of .ensures
+
+add-height : tie.Need-add-height
+add-height c = search needs
+
+mul-height : tie.Need-mul-height
+mul-height c = search needs
+
+shared-slice-read-height : tie.Need-shared-slice-read-height
+shared-slice-read-height c =
+    let s = c .before .before .before .before in
+    omega (arith, s .pre .1 .0 .enough, s .pre .1 .1 .0)
+
+add-leading-below : tie.Need-add-leading-below
+add-leading-below c = search needs
+
+leading-below-requires : tie.Need-leading-below-requires
+leading-below-requires c κs =
+    let s = c .before .before .before .before in
+    (s .pre .0, (omega (arith, s .pre .1 .1 .0), omega (arith, s .pre .1 .1 .0), s .pre .1 .0 .low _ (omega (arith, s .pre .1 .1 .0))))
+
+mul-total : tie.Need-mul-total
+mul-total c = omega (arith, small c)
+
+add-total : tie.Need-add-total
+add-total c = search needs
+
+mul-total-2 : tie.Need-mul-total-2
+mul-total-2 c = omega (arith, small c)
+
+add-total-2 : tie.Need-add-total-2
+add-total-2 c = omega (arith, small c)
+
+add-total-3 : tie.Need-add-total-3
+add-total-3 c = omega (arith, small c)
+
+remainder-requires : tie.Need-remainder-requires
+remainder-requires c κs = c .before .before .before .before .before .pre .0 .known
+
+quotient-of-requires : tie.Need-quotient-of-requires
+quotient-of-requires c κs = (c .before .before .before .before .before .before .pre .0 .known, small (c .before) .all)
+
+add-leading-of : tie.Need-add-leading-of
+add-leading-of c = rw (c .before .remainder .ensures) (omega (arith, parts (c .before .before)))
+
+leading-of-requires : tie.Need-leading-of-requires
+leading-of-requires c κs = (c .before .before .before .before .before .before .before .pre .0, rw (c .before .remainder .ensures) (omega (arith, parts (c .before .before))))
+
+cast-c : tie.Need-cast-c
+cast-c c = search needs
+
+sub-c : tie.Need-sub-c
+sub-c c = less-fits _ (k c) (degree c) (low c)
+
+-- the bounds of the pair, where its partner is what the remainder gave
+held : (c : tie.After-leading-of) (w mu : ℕ) → Held (c .before .before .before .before .before .before .before .before .args .q) (record { partner = c .before .before .remainder .result; c = toZ w64 (ofZ w64 (toZ w64 (c .leading-of .result .degree) -ℤ toZ w64 (ofZ w64 (k c)))); w = w; mu = mu; nu = c .leading-of .result .coefficient })
+held c w mu = record { partner = rw (c .before .before .remainder .ensures) (parts (c .before .before .before) .part); c = c-small c }
+
+returns : tie.Need-returns
+returns c =
+    let d = c .before in
+    let s = c .before .before .before .before .before .before .before .before .before in
+    let r = c .before .before .before .remainder .ensures in (
+      held d _ _,
+      λ S u narrow below z v.
+          pair-negative _ (s .pre .0 .known) S u _ _ (c .before .before .before .before .leading-below .result) (c .before .leading-of .result) (c .before .before .before .before .leading-below .ensures .1 (cellsOf _ S) z (short (c .before .before .before .before) S below)) (rw r at (c .before .leading-of .ensures .1 (cellsOf _ S) z))
+          _ r (c-is d) refl (negative-yes (kIs d) (rw (k-is d) at (c .if1 .taken))) refl refl,
+    )
+
+add-coefficient-at : tie.Need-add-coefficient-at
+add-coefficient-at c = search needs
+
+add-coefficient-at-2 : tie.Need-add-coefficient-at-2
+add-coefficient-at-2 c = rw (c .before .before .before .remainder .ensures) (omega (arith, parts (c .before .before .before .before)))
+
+cast-coefficient-at : tie.Need-cast-coefficient-at
+cast-coefficient-at c =
+    let d = c .before in
+    rw (k-is d) (cast-fits (kIs d) (omega (arith, k-small _ _ (parts (d .before .before .before)))) (negative-no (kIs d) (rw (k-is d) at (c .if1 .left)) .1))
+
+coefficient-at-requires : tie.Need-coefficient-at-requires
+coefficient-at-requires c κs = (c .before .before .before .before .before .before .before .before .before .pre .0, rw (c .before .before .before .remainder .ensures) (omega (arith, parts (c .before .before .before .before))))
+
+inverse-requires : tie.Need-inverse-requires
+inverse-requires c κs = search needs
+
+product-in-requires : tie.Need-product-in-requires
+product-in-requires c κs = let s = c .before .before .before .before .before .before .before .before .before .before .before .before in (s .pre .0 .known, s .pre .1 .1 .2)
+
+returns-2 : tie.Need-returns-2
+returns-2 c =
+    let d = c .before .before .before .before .before in
+    let s = c .before .before .before .before .before .before .before .before .before .before .before .before .before in
+    let r = c .before .before .before .before .before .before .before .remainder .ensures in
+    let n = negative-no (kIs d) (rw (k-is d) at (c .before .before .before .before .if1 .left)) in (
+      held d _ _,
+      λ S u narrow below z v.
+          let lead = c .before .before .before .before .before .before .before .before .leading-below .ensures .1 (cellsOf _ S) z (short (c .before .before .before .before .before .before .before .before) S below) in
+          let read = rw (r, k-is d, n .1) at (c .before .before .before .coefficient-at .ensures (cellsOf _ S) narrow z) in
+          pair-voted _ (s .pre .0 .known) S u _ _ (c .before .before .before .before .before .before .before .before .leading-below .result) (c .before .before .before .before .before .leading-of .result) lead (rw r at (c .before .before .before .before .before .leading-of .ensures .1 (cellsOf _ S) z))
+          _ r (c-is d) refl (n .0) (v ∙ c .before .before .if2 .taken)
+          (quotient-is _ (s .pre .0 .known) _ _ _ _ _ _ read (lead-f _ S _ _ lead) (c .before .inverse .ensures) (c .product-in .ensures)) refl,
+    )
+
+returns-3 : tie.Need-returns-3
+returns-3 c =
+    let d = c .before .before .before in
+    let s = c .before .before .before .before .before .before .before .before .before .before .before in
+    let r = c .before .before .before .before .before .remainder .ensures in
+    let n = negative-no (kIs d) (rw (k-is d) at (c .before .before .if1 .left)) in (
+      held d _ _,
+      λ S u narrow below z v.
+          pair-plain _ (s .pre .0 .known) S u _ _ (c .before .before .before .before .before .before .leading-below .result) (c .before .before .before .leading-of .result) (c .before .before .before .before .before .before .leading-below .ensures .1 (cellsOf _ S) z (short (c .before .before .before .before .before .before) S below)) (rw r at (c .before .before .before .leading-of .ensures .1 (cellsOf _ S) z))
+          _ r (c-is d) refl (n .0) (v ∙ c .if2 .left)
+          (rw (r, k-is d, n .1) at (c .before .coefficient-at .ensures (cellsOf _ S) narrow z)) refl,
+    )
+
+pub pair-of-spec : {M : Type 1} → statement M
+pair-of-spec =
+    tie.close
+    (tie.spec
+    add-height
+    mul-height
+    shared-slice-read-height
+    add-leading-below
+    leading-below-requires
+    mul-total
+    add-total
+    mul-total-2
+    add-total-2
+    add-total-3
+    remainder-requires
+    quotient-of-requires
+    add-leading-of
+    leading-of-requires
+    cast-c
+    sub-c
+    returns
+    add-coefficient-at
+    add-coefficient-at-2
+    cast-coefficient-at
+    coefficient-at-requires
+    inverse-requires
+    product-in-requires
+    returns-2
+    returns-3)

@@ -1,0 +1,4 @@
+pub mod Turned
+pub mod ProductCells
+pub mod ReplaceCells
+pub mod ReplaceLaws

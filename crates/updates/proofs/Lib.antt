@@ -1,0 +1,3 @@
+pub mod UpdateCells
+pub mod ChangeLaws
+pub mod BelowUpdates

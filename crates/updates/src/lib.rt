@@ -1,0 +1,134 @@
+// The update of a pair: one polynomial reduced by another, or both exchanged.
+use stepvotes::Pair;
+ghost use mathlib.Core.Path.{_≡_};
+ghost use Prim.Native.Nat.{ℕ, _*_, _<_};
+ghost use lib.ListN.{length};
+ghost use Rattle.lists.specs.Tables.{tab};
+ghost use Rattle.symbols.specs.Rule.{Known, symbols, Sym, number};
+ghost use Rattle.symbols.specs.Tables.{HasProducts};
+ghost use Rattle.published.specs.Start.{Polynomials};
+ghost use Rattle.published.specs.Pairing.{Pairing};
+ghost use Rattle.published.specs.Steps.{ratio, changed, updated};
+ghost use Rattle.workarea.specs.Area.{Area, cellsOf, Turns, Multiplies};
+ghost use Rattle.updates.specs.Updates.{rowHeight, polynomialAdded, polynomialsExchanged};
+ghost use Rattle.workarea.specs.Heights.{Heights, Below, BecomesBelow};
+ghost use Rattle.stepvotes.specs.Pairs.{Held, NumbersOf, pairAt};
+
+// How many symbols of row r are added: of an upper row no more than there are.
+fn row_height(q: usize, r: usize, height: usize) -> usize
+    requires { ⌜ Known q ⌝ }
+    ensures { λ n. ⌜ n ≡ rowHeight q height r ⌝ }
+{
+    if r < q { height } else { workarea::width_of(q) }
+}
+
+// Polynomial f becomes f + ρ·x^shift·g, where `products` is the table row of ρ and g's upper rows have no more than `height`
+// symbols.
+fn add_polynomial(
+    work: &mut [u8],
+    q: usize,
+    f: usize,
+    g: usize,
+    height: usize,
+    shift: usize,
+    products: [u8; 16],
+)
+    requires { ⌜ Area q (length (now work)) ⌝ }
+    requires { ⌜ (f < 2 * q) × (g < 2 * q) × (f ≡ g → ⊥) ⌝ }
+    ensures { λ _. ⌜ ((ρ : Sym q) → Multiplies q products ρ → Turns q (now (work .entry)) (now (work .exit)) (polynomialAdded q f g height shift ρ (2 * q))) ⌝ }
+{
+    for r in 0..2 * q {
+        let count = row_height(q, r, height);
+        workarea::add_row(work, q, f, r, g, r, count, shift, products);
+    }
+}
+
+// Polynomial f becomes x^shift·f + ρ·g, where `products` is the table row of ρ, and polynomial g becomes what f was.
+fn exchange_polynomials(
+    work: &mut [u8],
+    q: usize,
+    f: usize,
+    g: usize,
+    shift: usize,
+    products: [u8; 16],
+)
+    requires { ⌜ Area q (length (now work)) ⌝ }
+    requires { ⌜ (f < 2 * q) × (g < 2 * q) × (f ≡ g → ⊥) ⌝ }
+    ensures { λ _. ⌜ ((ρ : Sym q) → Multiplies q products ρ → Turns q (now (work .entry)) (now (work .exit)) (polynomialsExchanged q f g shift ρ (2 * q))) ⌝ }
+{
+    for r in 0..2 * q {
+        workarea::exchange_row(work, q, f, g, r, shift, products);
+    }
+}
+
+// r = μ_i(w + w_i)/ν.
+fn ratio_of(table: &[u8], q: usize, vote: u8, w: u8, mu: u8, nu: u8) -> u8
+    requires { ⌜ Known q × HasProducts q (now table) ⌝ }
+    ensures { λ r. ⌜ ((ω : Sym q) (P : Pairing (symbols q) q) → vote ≡ number q ω → w ≡ number q (P .w) → mu ≡ number q (P .μ) → nu ≡ number q (P .ν)
+        → r ≡ number q (ratio (symbols q) q ω P)) ⌝ }
+{
+    let product = symbols::product_in(table, q, mu, vote ^ w);
+    let inverse = symbols::inverse(q, nu);
+    symbols::product_in(table, q, product, inverse)
+}
+
+// What pair i does after the substitution: c's sign picks the update, and -c is the shift where c is not positive.
+fn change(
+    table: &[u8],
+    work: &mut [u8],
+    q: usize,
+    heights: &mut [usize],
+    i: usize,
+    pair: Pair,
+    vote: u8,
+)
+    requires { ⌜ Area q (length (now work)) ⌝ }
+    requires { ⌜ Heights q (now heights) ⌝ }
+    requires { ⌜ (i < q) × Held q pair × HasProducts q (now table) ⌝ }
+    ensures { λ _. ⌜ Heights q (now (heights .exit)) ⌝ }
+    ensures { λ _. ⌜ ((S : Polynomials (symbols q) q) (ω : Sym q) (P : Pairing (symbols q) q) → vote ≡ number q ω → NumbersOf q pair P
+        → Below q (now (heights .entry)) (cellsOf q S)
+        → BecomesBelow q (now (work .entry)) (now (work .exit)) S (changed (symbols q) q ω i P S) (now (heights .exit))) ⌝ }
+{
+    let w = pair.w;
+    if w == vote {
+        return;
+    }
+    let ratio = ratio_of(table, q, vote, w, pair.mu, pair.nu);
+    let products = symbols::products_in(table, q, ratio);
+    let f = q + i;
+    let g = pair.partner;
+    let c = pair.c;
+    if 0 < c {
+        let shift = c as usize;
+        exchange_polynomials(work, q, f, g, shift, products);
+        workarea::exchange_heights(heights, q, f, g, shift);
+        return;
+    }
+    let shift = -c as usize;
+    add_polynomial(work, q, f, g, heights[g], shift, products);
+    workarea::add_heights(heights, q, f, g, shift);
+}
+
+// The update of all pairs.
+pub fn change_all(
+    table: &[u8],
+    work: &mut [u8],
+    q: usize,
+    heights: &mut [usize],
+    pairs: [Pair; 4],
+    vote: u8,
+)
+    requires { ⌜ Area q (length (now work)) ⌝ }
+    requires { ⌜ Heights q (now heights) ⌝ }
+    requires { ⌜ ((i : ℕ) → i < q → Held q (pairAt pairs i)) × HasProducts q (now table) ⌝ }
+    ensures { λ _. ⌜ Heights q (now (heights .exit)) ⌝ }
+    ensures { λ _. ⌜ ((S : Polynomials (symbols q) q) (ω : Sym q) (P : ℕ → Pairing (symbols q) q) → vote ≡ number q ω
+        → ((i : ℕ) → i < q → NumbersOf q (pairAt pairs i) (P i)) → Below q (now (heights .entry)) (cellsOf q S)
+        → BecomesBelow q (now (work .entry)) (now (work .exit)) S (updated (symbols q) q ω (tab q P) S q) (now (heights .exit))) ⌝ }
+{
+    for i in 0..q {
+        let pair = pairs[i];
+        change(table, work, q, heights, i, pair, vote);
+    }
+}

@@ -1,0 +1,16 @@
+-- By how the two compare.
+-- Assumes nothing.
+use mathlib.Core.Path.{sym}
+use native.Mathlib.Omega.{arith}
+use Rattle.workarea.proofs.HeightLaws.{larger-first, larger-second}
+use Rattle.workarea.proofs.heights.larger.Statement.{statement}
+use Rattle.workarea.proofs.heights.larger.Tie as tie
+
+returns : tie.Need-returns
+returns c = sym (larger-second _ _ (c .if1 .taken))
+
+returns-2 : tie.Need-returns-2
+returns-2 c = sym (larger-first _ _ (omega (arith, c .if1 .left)))
+
+pub larger-spec : {M : Type 1} → statement M
+larger-spec = tie.close (tie.spec returns returns-2)
