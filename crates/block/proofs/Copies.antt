@@ -17,7 +17,9 @@ use Rattle.lists.proofs.Numbers.{same-or-not}
 use Rattle.lists.proofs.Same.{same-lists}
 use Rattle.decoder.specs.declared.Decoded.{Decoded}
 use Rattle.decoder.specs.declared.Decoded.the-variants.{Accepted, Refused as Declined}
-use Rattle.decoder.specs.Decoding.{countOf, voted, decoded}
+use Rattle.judging.specs.Judging.{countOf}
+use Rattle.voting.specs.Voting.{voted}
+use Rattle.decoder.specs.Decoding.{decoded}
 use Rattle.layout.specs.Layout.{tapeQ, tapeU, rowCount, blockRow, payloadRow}
 use Rattle.lists.specs.Same.{sameList}
 use Rattle.taperow.specs.Reading.{outcome, rowRecord}

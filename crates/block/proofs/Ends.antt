@@ -10,11 +10,10 @@ use Rattle.lists.specs.Tables.{from, tab}
 use Rattle.lists.proofs.Tables.{length-tab, tab-more}
 use Rattle.refusals.specs.Numbers.{firstOf}
 use Rattle.published.specs.Picture.{areaSize}
-use Rattle.decoder.specs.Decoding.{cleared}
+use Rattle.voting.specs.Voting.{cleared}
 use Rattle.layout.specs.Layout.{tapeQ, rowCount}
 use Rattle.taperow.specs.Reading.{rowRecord}
-use Rattle.block.specs.Verification.{checksFor, verdictFrom, allRecords, verifyChecks, verifyAnswer, verifyRecords}
-use Rattle.block.specs.Verification.{verifyWork}
+use Rattle.block.specs.Verification.{checksFor, verdictFrom, allRecords, verifyChecks, verifyAnswer, verifyRecords, verifyWork}
 use Rattle.block.specs.Inside.{verdictBefore, rowsToRead}
 use Rattle.block.specs.AsBytes.{recordBytes, byteChecks, verifyBytesAnswer, verifyBytesRecords, verifyBytesWork}
 use Rattle.taperow.specs.declared.Record.{Record}

@@ -8,9 +8,9 @@ use native.Mathlib.Omega.{arith}
 use lib.ListN.{length, getD}
 use Rattle.lists.specs.Tables.{join}
 use Rattle.lists.proofs.Tables.{getD-tab, getD-join, tab-is}
-use Rattle.decoder.specs.Decoding.{voted}
+use Rattle.voting.specs.Voting.{voted}
 use Rattle.decoder.proofs.ReadingBack.{voted-row}
-use Rattle.decoder.proofs.RowNumbers.{voted-count}
+use Rattle.voting.proofs.Votes.{voted-count}
 use Rattle.layout.specs.Packing.{symbolIn, packedByte, packed}
 use Rattle.layout.specs.Layout.{tapeQ, tapeU, messageLength, rowCount, blockRow, payloadRow}
 use Rattle.layout.proofs.Packed.{byte-back}

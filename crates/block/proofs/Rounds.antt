@@ -16,7 +16,7 @@ use Rattle.refusals.specs.Numbers.{Check, firstOf}
 use Rattle.refusals.proofs.Checks.{Refuses, Passes, refused, passed, decideChecks}
 use Rattle.lists.specs.Tables.{from, tab}
 use Rattle.published.specs.Picture.{areaSize}
-use Rattle.decoder.specs.Decoding.{cleared}
+use Rattle.voting.specs.Voting.{cleared}
 use Rattle.layout.specs.Layout.{tapeQ, rowCount}
 use Rattle.taperow.specs.Reading.{rowRecord}
 use Rattle.block.specs.Verification.{checksFor, verdictFrom}

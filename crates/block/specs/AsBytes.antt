@@ -5,7 +5,7 @@ use Prim.Native.Nat.{ℕ, _*_, _/_}
 use lib.ListN.{length, drop}
 use Rattle.refusals.specs.Numbers.{Check, firstOf}
 use Rattle.published.specs.Picture.{areaSize}
-use Rattle.decoder.specs.Decoding.{cleared}
+use Rattle.voting.specs.Voting.{cleared}
 use Rattle.layout.specs.Layout.{tapeQ, rowCount}
 use Rattle.block.specs.Verification.{checksFor, verdictFrom, allRecords}
 use Rattle.taperow.specs.declared.Record.{Record}

@@ -6,7 +6,9 @@ use mathlib.Core.List.{List}
 use Prim.Native.Nat.{ℕ, _*_, _≤_, _<_}
 use lib.ListN.{length}
 use Rattle.decoder.specs.declared.Decoded.the-variants.{Accepted}
-use Rattle.decoder.specs.Decoding.{countOf, voted, decoded}
+use Rattle.judging.specs.Judging.{countOf}
+use Rattle.voting.specs.Voting.{voted}
+use Rattle.decoder.specs.Decoding.{decoded}
 use Rattle.layout.specs.Layout.{tapeQ, tapeU, rowCount, isBlock, blockRow, payloadRow}
 
 -- the row decodes within reach to exactly this message: it is accepted with the votes for its message, and at most 9 of its

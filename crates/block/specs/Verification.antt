@@ -9,7 +9,7 @@ use Rattle.refusals.specs.declared.Refusal.the-variants.{ShortWork, BadBlock, W
 use Rattle.refusals.specs.Numbers.{Check, _if_, firstOf}
 use Rattle.lists.specs.Tables.{tab}
 use Rattle.published.specs.Picture.{areaSize}
-use Rattle.decoder.specs.Decoding.{cleared}
+use Rattle.voting.specs.Voting.{cleared}
 use Rattle.layout.specs.Layout.{tapeQ, rowCount, isBlock}
 use Rattle.taperow.specs.declared.Record.{Record}
 use Rattle.taperow.specs.Reading.{rowRecord}

@@ -8,7 +8,7 @@ use lib.ListN.{length, drop}
 use Rattle.refusals.specs.declared.Refusal.the-variants.{ShortOutput, WrongPayload}
 use Rattle.refusals.specs.Numbers.{Check, _if_, firstOf}
 use Rattle.lists.specs.Tables.{tab, join}
-use Rattle.decoder.specs.Decoding.{voted}
+use Rattle.voting.specs.Voting.{voted}
 use Rattle.layout.specs.Packing.{packed}
 use Rattle.layout.specs.Layout.{tapeQ, tapeU, rowCount, blockLength, blockRow, blockOf}
 use Rattle.taperow.specs.Laying.{codeRow}

@@ -5,3 +5,4 @@ pub mod Ranks
 pub mod Answers
 pub mod Ordinates
 pub mod MessageFunction
+pub mod Given

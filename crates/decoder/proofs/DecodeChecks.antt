@@ -15,7 +15,8 @@ use Rattle.symbols.proofs.Bytes.{known-test}
 use Rattle.curve.specs.Codes.{pointCount, isCode, dimension}
 use Rattle.published.specs.Picture.{areaSize}
 use Rattle.decoder.specs.Decoding.{decodeChecks}
-use Rattle.decoder.specs.FullRows.{Received, Room}
+use Rattle.curve.specs.Given.{Received}
+use Rattle.decoder.specs.FullRows.{Room}
 
 module _ (q u : ℕ) (row work message corrected : List ℕ) where
   -- 1: q is unknown

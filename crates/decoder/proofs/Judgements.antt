@@ -15,9 +15,13 @@ use Rattle.curve.specs.Codes.{pointCount, dimension, reach}
 use Rattle.encoder.specs.Encoding.{rowNumbers}
 use Rattle.decoder.specs.declared.Decoded.{Decoded}
 use Rattle.decoder.specs.declared.Decoded.the-variants.{Accepted, Refused}
-use Rattle.decoder.specs.Decoding.{countOf, judgement, voted, decoded, ifAccepted}
-use Rattle.decoder.specs.FullRows.{Message, Received, messageAfter, correctedAfter}
-use Rattle.decoder.proofs.RowNumbers.{row-count, voted-count, voted-symbols, row-first, voted-first}
+use Rattle.judging.specs.Judging.{countOf}
+use Rattle.decoder.specs.Decoding.{judgement, decoded, ifAccepted}
+use Rattle.voting.specs.Voting.{voted}
+use Rattle.curve.specs.Given.{Message, Received}
+use Rattle.decoder.specs.FullRows.{messageAfter, correctedAfter}
+use Rattle.encoder.proofs.RowSymbols.{row-count, row-first}
+use Rattle.voting.proofs.Votes.{voted-count, voted-symbols, voted-first}
 
 -- what a count within reach, or beyond, is answered with
 verdict : ℕ → Bool → Decoded

@@ -1,8 +1,4 @@
 pub mod Undamaged
-pub mod Differing
-mod Clearing
-mod Passing
-pub mod RowNumbers
 pub mod Judgements
 pub mod ReadingBack
 pub mod DecodeChecks

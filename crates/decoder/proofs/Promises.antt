@@ -13,10 +13,13 @@ use Rattle.encoder.specs.Encoding.{rowNumbers}
 use Rattle.published.specs.Picture.{areaSize}
 use Rattle.decoder.specs.declared.Decoded.{Decoded}
 use Rattle.decoder.specs.declared.Decoded.the-variants.{Accepted, Refused}
-use Rattle.decoder.specs.Decoding.{voted, decoded, decodeChecks, decodeAnswer, decodeWork, decodeMessage, decodeCorrected, cleared, ifAccepted}
-use Rattle.decoder.specs.FullRows.{Received, Room, messageAfter, correctedAfter}
+use Rattle.voting.specs.Voting.{voted, cleared}
+use Rattle.decoder.specs.Decoding.{decoded, decodeChecks, decodeAnswer, decodeWork, decodeMessage, decodeCorrected, ifAccepted}
+use Rattle.curve.specs.Given.{Received}
+use Rattle.decoder.specs.FullRows.{Room, messageAfter, correctedAfter}
 use Rattle.decoder.specs.Undamaged.{Undamaged}
-use Rattle.decoder.proofs.RowNumbers.{row-count, voted-count}
+use Rattle.encoder.proofs.RowSymbols.{row-count}
+use Rattle.voting.proofs.Votes.{voted-count}
 use Rattle.decoder.proofs.ReadingBack.{row-received, voted-row, decoded-row}
 use Rattle.decoder.proofs.DecodeChecks.{passes}
 

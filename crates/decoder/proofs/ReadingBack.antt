@@ -16,10 +16,12 @@ use Rattle.published.specs.Start.{stepCount}
 use Rattle.published.specs.Steps.{after, messageOf}
 use Rattle.steps.specs.Stop.{stateAfter, votesAfter}
 use Rattle.decoder.specs.declared.Decoded.the-variants.{Accepted}
-use Rattle.decoder.specs.Decoding.{countOf, voted, decoded}
-use Rattle.decoder.specs.FullRows.{Message, Received}
-use Rattle.decoder.proofs.Differing.{differing-self}
-use Rattle.decoder.proofs.RowNumbers.{row-count, row-symbols}
+use Rattle.judging.specs.Judging.{countOf}
+use Rattle.voting.specs.Voting.{voted}
+use Rattle.decoder.specs.Decoding.{decoded}
+use Rattle.curve.specs.Given.{Message, Received}
+use Rattle.judging.proofs.Differing.{differing-self}
+use Rattle.encoder.proofs.RowSymbols.{row-count, row-symbols}
 use Rattle.decoder.proofs.Judgements.{accepted-is}
 use Rattle.decoder.proofs.Undamaged.{undamaged}
 

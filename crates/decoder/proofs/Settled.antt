@@ -1,13 +1,11 @@
 -- The promises settle what is answered and left: any two results that a promise allows for one call are equal.
 -- Assumes nothing.
 use mathlib.Core.Path.{_≡_, sym, _∙_}
-use mathlib.Core.Bool.{Bool, cond}
 use mathlib.Core.List.{List}
 use Prim.Native.Nat.{ℕ}
 use lib.ListN.{length}
 use Rattle.decoder.specs.declared.Decoded.{Decoded}
 use Rattle.decoder.specs.Decoding.{decodeChecks, decodeAnswer}
-use Rattle.decoder.specs.PassOn.{passedOn}
 use Rattle.decoder.proofs.Promises.{Promised}
 
 -- two results of decoding
@@ -23,9 +21,3 @@ pub answer-by-lengths : (q u : ℕ) (row work work′ message message′ correct
     → decodeAnswer q u row work message corrected ≡ decodeAnswer q u row work′ message′ corrected′
 unfolding decodeAnswer decodeChecks
 answer-by-lengths q u row work work′ message message′ corrected corrected′ e f g = rw (e, f, g)
-
--- two parts that are passed on: their symbols, and where they start
-pub pass-on-settled : (q : ℕ) (accepted : Bool) (received corrected : List ℕ) (start start′ : ℕ × ℕ) {part part′ : List ℕ} {at at′ : ℕ × ℕ}
-    → part ≡ passedOn q accepted received corrected → at ≡ cond accepted start′ start
-    → part′ ≡ passedOn q accepted received corrected → at′ ≡ cond accepted start′ start → (part ≡ part′) × (at ≡ at′)
-pass-on-settled q accepted received corrected start start′ e f e′ f′ = (e ∙ sym e′, f ∙ sym f′)

@@ -1,31 +1,21 @@
 -- What decoding answers and leaves, for all inputs. Document 01, "The decoder's steps" (its end), "Lent areas", "Refusal
 -- numbers".
 -- Assumes nothing.
-use mathlib.Core.Bool.{true, false, not, cond, _||_}
+use mathlib.Core.Bool.{true, false, not, _||_}
 use mathlib.Core.List.{List, [], _∷_, _++_}
 use Prim.Native.Nat.{ℕ, _+_}
 use lib.Dec.{leb, eqb, ltb}
-use lib.ListN.{length, drop, replicate}
+use lib.ListN.{length, drop}
 use Rattle.refusals.specs.declared.Refusal.the-variants.{UnknownQ, NoCode, WrongLength, NoSymbol, ShortWork, ShortOutput, BeyondReach}
 use Rattle.refusals.specs.Numbers.{Check, _if_, firstOf}
 use Rattle.symbols.specs.Rule.{isKnown, anyBeyond}
 use Rattle.curve.specs.Codes.{pointCount, isCode, dimension, reach}
 use Rattle.encoder.specs.Encoding.{rowNumbers}
-use Rattle.published.specs.Start.{stepCount}
 use Rattle.published.specs.Picture.{areaSize}
-use Rattle.steps.specs.Stop.{votesAfter}
 use Rattle.decoder.specs.declared.Decoded.{Decoded}
 use Rattle.decoder.specs.declared.Decoded.the-variants.{Accepted, Refused}
-
--- "The places that differ are the count."
-unfoldable pub differing : List ℕ → List ℕ → ℕ
-differing [] ys = 0
-differing (x ∷ xs) [] = 0
-differing (x ∷ xs) (y ∷ ys) = cond (eqb x y) 0 1 + differing xs ys
-
--- a message judged against a row: how many places of the row are not as in the message's row
-unfoldable pub countOf : ℕ → ℕ → List ℕ → List ℕ → ℕ
-countOf q u message row = differing (rowNumbers q u message) row
+use Rattle.judging.specs.Judging.{countOf}
+use Rattle.voting.specs.Voting.{voted, cleared}
 
 -- "At most τ: accepted."
 unfoldable pub judgement : ℕ → ℕ → List ℕ → List ℕ → Decoded
@@ -34,10 +24,6 @@ judgement q u message row =
       | true ↦ Accepted (countOf q u message row)
       | false ↦ Refused BeyondReach
     ]
-
--- "After the last step": the votes after all steps
-unfoldable pub voted : ℕ → ℕ → List ℕ → List ℕ
-voted q u row = votesAfter q u row (stepCount q)
 
 -- what a full row of symbols decodes to
 unfoldable pub decoded : ℕ → ℕ → List ℕ → Decoded
@@ -58,10 +44,6 @@ decodeChecks q u row work message corrected =
 unfoldable pub decodeAnswer : ℕ → ℕ → List ℕ → List ℕ → List ℕ → List ℕ → Decoded
 decodeAnswer q u row work message corrected =
     firstOf (decodeChecks q u row work message corrected) Refused (decoded q u row)
-
--- a list whose first n places are zero
-unfoldable pub cleared : ℕ → List ℕ → List ℕ
-cleared n l = replicate n 0 ++ drop n l
 
 -- "ends with its part of the work area all zero"; "8 leaves its part of the work area zero"
 unfoldable pub decodeWork : ℕ → ℕ → List ℕ → List ℕ → List ℕ → List ℕ → List ℕ

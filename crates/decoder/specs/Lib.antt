@@ -1,4 +1,3 @@
 pub mod Decoding
 pub mod FullRows
 pub mod Undamaged
-pub mod PassOn

@@ -9,7 +9,8 @@ use Rattle.curve.specs.Codes.{pointCount, dimension}
 use Rattle.encoder.specs.Encoding.{rowNumbers}
 use Rattle.decoder.specs.declared.Decoded.{Decoded}
 use Rattle.decoder.specs.declared.Decoded.the-variants.{Accepted}
-use Rattle.decoder.specs.FullRows.{Message, Room}
+use Rattle.curve.specs.Given.{Message}
+use Rattle.decoder.specs.FullRows.{Room}
 
 -- accepted with count 0, and the outputs begin with the message that was sent and with its row
 pub record ReadBack (q u : ℕ) (sent : List ℕ) (answer : Decoded) (message corrected : List ℕ) : Type 0 where

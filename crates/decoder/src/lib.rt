@@ -1,19 +1,12 @@
-// A received row becomes the message that its votes give, or a refusal; and the row that is passed on.
+// A received row becomes the message that its votes give, or a refusal.
 use refusals::Refusal;
-
-mod judging;
-mod voting;
-
-pub use judging::judge;
-pub use voting::vote_all;
 ghost use mathlib.Core.Path.{_≡_};
-ghost use mathlib.Core.Bool.{cond};
-ghost use denote.Ref.{ptr};
 ghost use Rattle.published.specs.Picture.{areaSize};
-ghost use Rattle.decoder.specs.Decoding.{decoded, cleared, decodeAnswer, decodeWork, decodeMessage, decodeCorrected};
-ghost use Rattle.decoder.specs.FullRows.{Received, Room, messageAfter, correctedAfter};
+ghost use Rattle.decoder.specs.Decoding.{decoded, decodeAnswer, decodeWork, decodeMessage, decodeCorrected};
+ghost use Rattle.voting.specs.Voting.{cleared};
+ghost use Rattle.curve.specs.Given.{Received};
+ghost use Rattle.decoder.specs.FullRows.{Room, messageAfter, correctedAfter};
 ghost use Rattle.decoder.specs.Undamaged.{Undamaged};
-ghost use Rattle.decoder.specs.PassOn.{firstRow, passedOn};
 
 // What decoding answers; an acceptance has the count of places that differ.
 pub enum Decoded {
@@ -93,31 +86,4 @@ pub fn decode(
         return Decoded::Refused(Refusal::ShortOutput);
     }
     decode_row(q, u, row, work, message, corrected)
-}
-
-// The first n symbols of a row, or an empty part of it.
-fn first_row<'a>(q: usize, row: &'a [u8]) -> &'a [u8]
-    ensures { λ r. ⌜ now r ≡ firstRow q (now (row .entry)) ⌝ }
-    ensures { λ r. ⌜ ptr r ≡ ptr (row .entry) ⌝ }
-{
-    if !symbols::is_known(q) {
-        return &row[..0];
-    }
-    let n = curve::point_count(q);
-    if row.len() < n {
-        return &row[..0];
-    }
-    &row[..n]
-}
-
-// The row that is passed on: a part of one of the two lent rows, that starts where that row starts, and no copy.
-pub fn pass_on<'a>(q: usize, accepted: bool, received: &'a [u8], corrected: &'a [u8]) -> &'a [u8]
-    ensures { λ r. ⌜ now r ≡ passedOn q accepted (now (received .entry)) (now (corrected .entry)) ⌝ }
-    ensures { λ r. ⌜ ptr r ≡ cond accepted (ptr (corrected .entry)) (ptr (received .entry)) ⌝ }
-{
-    if accepted {
-        first_row(q, corrected)
-    } else {
-        first_row(q, received)
-    }
 }

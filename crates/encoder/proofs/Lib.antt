@@ -5,3 +5,4 @@ mod RowNumbers
 mod Written
 mod EncodeChecks
 pub mod Settled
+pub mod RowSymbols

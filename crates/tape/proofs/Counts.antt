@@ -15,8 +15,10 @@ use Rattle.symbols.specs.Rule.{isKnown, Known}
 use Rattle.symbols.proofs.Bytes.{test-known}
 use Rattle.curve.specs.Codes.{pointCount, reach}
 use Rattle.decoder.specs.declared.Decoded.the-variants.{Accepted, Refused}
-use Rattle.decoder.specs.Decoding.{countOf, judgement, voted, decoded, decodeChecks, decodeAnswer}
-use Rattle.tape.specs.Results.{CountFits}
+use Rattle.judging.specs.Judging.{countOf}
+use Rattle.decoder.specs.Decoding.{judgement, decoded, decodeChecks, decodeAnswer}
+use Rattle.voting.specs.Voting.{voted}
+use Rattle.results.specs.Results.{CountFits}
 
 -- q is 2 or 4, so the reach is small
 reach-small : (q u : ℕ) → Known q → reach q u < 2 ^ 63

@@ -1,14 +1,12 @@
 // The layer's calls for programs in other languages, each over the proved call of its crate. include/orbitspinet.h declares them
 // for C and says their promises in words: a slice is passed as a pointer and a length, and every answer is one integer.
-mod results;
-
 ghost use mathlib.Core.Path.{_≡_};
 ghost use Rattle.encoder.specs.Encoding.{encodeAnswer, encodeOutput};
 ghost use Rattle.steps.specs.Stop.{stopAnswer, stopWork, stopOutput};
 ghost use Rattle.decoder.specs.Decoding.{decodeAnswer, decodeWork, decodeMessage, decodeCorrected};
 ghost use Rattle.block.specs.AsBytes.{verifyBytesAnswer, verifyBytesRecords, verifyBytesWork};
 ghost use Rattle.block.specs.Writing.{writeAnswer, writeBlock};
-ghost use Rattle.tape.specs.Results.{encodeResult, stopResult, decodeResult, verifyResult, verifyAt, writeResult};
+ghost use Rattle.results.specs.Results.{encodeResult, stopResult, decodeResult, verifyResult, verifyAt, writeResult};
 use block::verify_bytes;
 use block::write;
 use decoder::decode;

@@ -9,9 +9,9 @@ use lib.Seq.{getD-take, getD-drop}
 use Rattle.lists.proofs.Tables.{length-tab}
 use Rattle.lists.proofs.Same.{same-itself}
 use Rattle.symbols.proofs.SymbolLists.{below-all}
-use Rattle.decoder.specs.FullRows.{Message}
+use Rattle.curve.specs.Given.{Message}
 use Rattle.decoder.proofs.ReadingBack.{voted-row, decoded-row}
-use Rattle.decoder.proofs.RowNumbers.{row-count, row-symbols}
+use Rattle.encoder.proofs.RowSymbols.{row-count, row-symbols}
 use Rattle.layout.specs.Packing.{symbolIn}
 use Rattle.layout.specs.Layout.{tapeQ, tapeU, rowLength, messageLength, blockRow, payloadRow}
 use Rattle.layout.proofs.Reading.{message-part, none-beyond}

@@ -10,7 +10,7 @@ use Rattle.symbols.specs.Rule.{anyBeyond}
 use Rattle.curve.specs.Codes.{pointCount}
 use Rattle.encoder.specs.Encoding.{rowNumbers}
 use Rattle.encoder.specs.Stages.{Encodable}
-use Rattle.decoder.proofs.RowNumbers.{row-count, row-symbols}
+use Rattle.encoder.proofs.RowSymbols.{row-count, row-symbols}
 use Rattle.layout.specs.Packing.{unpacked, packed}
 use Rattle.layout.specs.Layout.{tapeQ, tapeU, messageLength}
 use Rattle.layout.proofs.Reading.{length-unpacked, message-part}

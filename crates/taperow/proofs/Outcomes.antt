@@ -13,7 +13,9 @@ use Rattle.refusals.specs.declared.Refusal.the-variants.{BeyondReach}
 use Rattle.curve.specs.Codes.{reach}
 use Rattle.decoder.specs.declared.Decoded.{Decoded}
 use Rattle.decoder.specs.declared.Decoded.the-variants.{Accepted, Refused}
-use Rattle.decoder.specs.Decoding.{countOf, judgement, voted, decoded, ifAccepted}
+use Rattle.judging.specs.Judging.{countOf}
+use Rattle.decoder.specs.Decoding.{judgement, decoded, ifAccepted}
+use Rattle.voting.specs.Voting.{voted}
 use Rattle.decoder.proofs.Decoded.{the-type}
 use Rattle.layout.specs.Packing.{unpacked}
 use Rattle.layout.specs.Layout.{tapeQ, tapeU, rowLength, messageLength, blockRow}

@@ -18,7 +18,8 @@ use Rattle.published.specs.Start.{width}
 use Rattle.published.specs.Picture.{areaSize}
 use Rattle.decoder.specs.declared.Decoded.{Decoded}
 use Rattle.decoder.specs.declared.Decoded.the-variants.{Refused}
-use Rattle.decoder.specs.Decoding.{voted, decoded, decodeChecks, decodeAnswer, cleared, decodeWork, ifAccepted, decodeMessage}
+use Rattle.voting.specs.Voting.{voted, cleared}
+use Rattle.decoder.specs.Decoding.{decoded, decodeChecks, decodeAnswer, decodeWork, ifAccepted, decodeMessage}
 use Rattle.layout.specs.Packing.{unpacked}
 use Rattle.layout.specs.Layout.{tapeQ, tapeU, rowLength}
 use Rattle.layout.proofs.Reading.{length-unpacked}

@@ -7,7 +7,8 @@ use Prim.Native.Nat.{ℕ}
 use Rattle.lists.specs.Same.{sameList}
 use Rattle.decoder.specs.declared.Decoded.{Decoded}
 use Rattle.decoder.specs.declared.Decoded.the-variants.{Accepted, Refused}
-use Rattle.decoder.specs.Decoding.{voted, decoded}
+use Rattle.voting.specs.Voting.{voted}
+use Rattle.decoder.specs.Decoding.{decoded}
 use Rattle.layout.specs.Packing.{unpacked}
 use Rattle.layout.specs.Layout.{tapeQ, tapeU, rowLength, messageLength, blockRow, payloadRow}
 use Rattle.taperow.specs.declared.Record.{Record}

@@ -27,7 +27,8 @@ use Rattle.steps.specs.Stop.{stateAfter, stopChecks, stopAnswer, stopWork, pict
 use Rattle.workarea.proofs.Sizes.{sizes}
 use Rattle.decoder.specs.declared.Decoded.{Decoded}
 use Rattle.decoder.specs.declared.Decoded.the-variants.{Accepted, Refused as Rejected}
-use Rattle.decoder.specs.Decoding.{decodeChecks, decodeAnswer, decodeMessage, decoded, ifAccepted, voted}
+use Rattle.decoder.specs.Decoding.{decodeChecks, decodeAnswer, decodeMessage, decoded, ifAccepted}
+use Rattle.voting.specs.Voting.{voted}
 use Rattle.trace.specs.Trace.{refuseLine, acceptLine, lastLine, rowLines, traceChecks, answer}
 use Rattle.trace.specs.Walk.{Full}
 use Rattle.trace.proofs.Small.{points-few, length-voted}

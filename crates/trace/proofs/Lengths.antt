@@ -24,7 +24,9 @@ use Rattle.published.specs.Steps.{State}
 use Rattle.steps.specs.Stop.{stateAfter}
 use Rattle.decoder.specs.declared.Decoded.{Decoded}
 use Rattle.decoder.specs.declared.Decoded.the-variants.{Accepted, Refused}
-use Rattle.decoder.specs.Decoding.{countOf, judgement, voted, decoded}
+use Rattle.judging.specs.Judging.{countOf}
+use Rattle.decoder.specs.Decoding.{judgement, decoded}
+use Rattle.voting.specs.Voting.{voted}
 use Rattle.workarea.proofs.Sizes.{sizes}
 use Rattle.trace.specs.Request.{line, Said, asks, nothing, reading}
 use Rattle.trace.specs.Trace.{refuseLine, acceptLine, voteText, voteAt, degrees, stepLine, stepLines, lastLine, rowLines, traceChecks, answer, answerTo, traceText}

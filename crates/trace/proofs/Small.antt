@@ -18,7 +18,7 @@ use Rattle.published.specs.Steps.{State, messageOf}
 use Rattle.workarea.proofs.Sizes.{sizes}
 use Rattle.trace.specs.Trace.{voteAt, degrees}
 use Rattle.steps.specs.Stop.{stateAfter, votesAfter}
-use Rattle.decoder.specs.Decoding.{voted}
+use Rattle.voting.specs.Voting.{voted}
 
 -- there are at most 64 points
 pub points-few : (q : ℕ) → Known q → pointCount q ≤ 64

@@ -18,7 +18,8 @@ use Rattle.published.specs.Picture.{cellNumber, picture}
 use Rattle.workarea.specs.Area.{Starts, cellsOf, numbers, shown}
 use Rattle.steps.specs.Stop.{stateAfter, pictureAfter}
 use Rattle.steps.specs.Step.{voteAfter, Stepped}
-use Rattle.decoder.specs.Decoding.{voted, decoded}
+use Rattle.voting.specs.Voting.{voted}
+use Rattle.decoder.specs.Decoding.{decoded}
 use Rattle.trace.specs.Request.{line}
 use Rattle.trace.specs.Trace.{voteAt, stepLine, stepLines, lastLine, rowLines}
 use Rattle.workarea.proofs.Sizes.{sizes}

@@ -19,7 +19,8 @@ use Rattle.published.specs.Steps.{State}
 use Rattle.steps.specs.Stop.{stateAfter}
 use Rattle.decoder.specs.declared.Decoded.{Decoded}
 use Rattle.decoder.specs.declared.Decoded.the-variants.{Accepted, Refused}
-use Rattle.decoder.specs.Decoding.{voted, decoded}
+use Rattle.voting.specs.Voting.{voted}
+use Rattle.decoder.specs.Decoding.{decoded}
 use Rattle.trace.specs.Request.{line, Said, asks, nothing, reading}
 
 -- prints "refuse" and its number

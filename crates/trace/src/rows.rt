@@ -16,7 +16,8 @@ ghost use lib.ListN.{length};
 ghost use Rattle.lines.specs.Text.{Wrote};
 ghost use Rattle.workarea.specs.Area.{Starts, cellsOf};
 ghost use Rattle.steps.specs.Stop.{stateAfter};
-ghost use Rattle.decoder.specs.Decoding.{voted, decoded};
+ghost use Rattle.voting.specs.Voting.{voted};
+ghost use Rattle.decoder.specs.Decoding.{decoded};
 ghost use Rattle.trace.specs.Trace.{lastLine, rowLines, answer as Trace·answer};
 ghost use Rattle.trace.specs.Walk.{Full};
 

@@ -16,7 +16,9 @@ use Rattle.published.specs.Picture.{areaSize}
 use Rattle.published.specs.Pairing.{degree, isNegative, positivePart, negativePart, isVoted, partnerOf, kOf, best, degreeOf, degreeF, degreeG, leadF, leadG, looked, pairing, score, vote}
 use Rattle.published.specs.Steps.{substitutedPart, substituted, raisedPart, reducedPart, replaced, exchanged, ratio, changed, noPair, updated, pairings, step, after, messageOf}
 use Rattle.steps.specs.Stop.{stateAfter, votesAfter}
-use Rattle.decoder.specs.Decoding.{differing, countOf, judgement, voted, decoded}
+use Rattle.judging.specs.Judging.{differing, countOf}
+use Rattle.decoder.specs.Decoding.{judgement, decoded}
+use Rattle.voting.specs.Voting.{voted}
 use Rattle.worked.specs.Table.{Table, is, has, terms, pointNumbers, powers, polynomialAfter, pairOne}
 use Rattle.worked.specs.Stated.{Stated, product2, powerOf2, gaps, ordinates}
 

@@ -17,7 +17,8 @@ use Rattle.published.specs.Start.{width, table, h, start, f, g}
 use Rattle.published.specs.Pairing.{Pairing, pairing, partnerOf, kOf}
 use Rattle.steps.specs.Stop.{stateAfter}
 use Rattle.decoder.specs.declared.Decoded.the-variants.{Accepted, Refused}
-use Rattle.decoder.specs.Decoding.{voted, decoded}
+use Rattle.voting.specs.Voting.{voted}
+use Rattle.decoder.specs.Decoding.{decoded}
 
 -- ---- a polynomial written as a sum of terms with coefficient 1
 

@@ -11,7 +11,8 @@ use Rattle.symbols.specs.Rule.{isKnown}
 use Rattle.symbols.proofs.Bytes.{test-known}
 use Rattle.curve.specs.Codes.{isCode}
 use Rattle.curve.proofs.CodeLaws.{code-below}
-use Rattle.decoder.specs.FullRows.{Received, Room}
+use Rattle.curve.specs.Given.{Received}
+use Rattle.decoder.specs.FullRows.{Room}
 use Rattle.decoder.proofs.DecodeChecks.{unknown-q, no-code, wrong-length, no-symbol, short-work, short-message, short-corrected}
 use Rattle.decoder.proofs.Promises.{refusing, decoding, told}
 use Rattle.decoder.proofs.decode.Statement.{statement}

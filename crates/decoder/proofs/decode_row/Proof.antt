@@ -10,8 +10,8 @@ use denote.Ref.{now}
 use lib.ListN.{drop, replicate}
 use Rattle.curve.specs.Codes.{pointCount, dimension}
 use Rattle.curve.proofs.CodeLaws.{code-below, dimension-le}
-use Rattle.decoder.specs.FullRows.{Received}
-use Rattle.decoder.proofs.RowNumbers.{count-small}
+use Rattle.curve.specs.Given.{Received}
+use Rattle.encoder.proofs.RowSymbols.{count-small}
 use Rattle.decoder.proofs.Judgements.{Voted, Judged, votes-count, votes-fit, votes-message, sent-count, sent-fit, beyond, within, message-kept, corrected-kept, message-written, corrected-written}
 use Rattle.decoder.proofs.decode_row.Statement.{statement}
 use Rattle.decoder.proofs.decode_row.Tie as tie

@@ -1,8 +1,8 @@
 -- `tape_decode` meets its contract: it passes decoding's answer on as an integer. Assumes nothing.
 use borrow.Author.Needs.{needs}
 use mathlib.Core.Path.{sym, ap, subst, _∙_}
-use Rattle.tape.specs.Results.{decodeResult, CountFits}
-use Rattle.tape.proofs.Signed.{returned}
+use Rattle.results.specs.Results.{decodeResult, CountFits}
+use Rattle.results.proofs.Signed.{returned}
 use Rattle.tape.proofs.Counts.{answer-fits}
 use Rattle.tape.proofs.tape_decode.Statement.{statement}
 use Rattle.tape.proofs.tape_decode.Tie as tie

@@ -1,8 +1,8 @@
 -- `tape_encode` meets its contract: it passes encoding's answer on as an integer. Assumes nothing.
 use borrow.Author.Needs.{needs}
 use mathlib.Core.Path.{ap, _∙_}
-use Rattle.tape.specs.Results.{encodeResult}
-use Rattle.tape.proofs.Signed.{returned}
+use Rattle.results.specs.Results.{encodeResult}
+use Rattle.results.proofs.Signed.{returned}
 use Rattle.tape.proofs.tape_encode.Statement.{statement}
 use Rattle.tape.proofs.tape_encode.Tie as tie
 

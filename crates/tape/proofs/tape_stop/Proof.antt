@@ -1,8 +1,8 @@
 -- `tape_stop` meets its contract: it passes the stop service's answer on as an integer. Assumes nothing.
 use borrow.Author.Needs.{needs}
 use mathlib.Core.Path.{ap, _∙_}
-use Rattle.tape.specs.Results.{stopResult}
-use Rattle.tape.proofs.Signed.{returned}
+use Rattle.results.specs.Results.{stopResult}
+use Rattle.results.proofs.Signed.{returned}
 use Rattle.tape.proofs.tape_stop.Statement.{statement}
 use Rattle.tape.proofs.tape_stop.Tie as tie
 

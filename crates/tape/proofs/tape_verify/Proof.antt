@@ -2,8 +2,8 @@
 use borrow.Author.Needs.{needs}
 use mathlib.Core.Path.{ap, _∙_}
 use Rattle.block.specs.declared.Verified.{Verified}
-use Rattle.tape.specs.Results.{verifyResult, verifyAt}
-use Rattle.tape.proofs.Signed.{returned}
+use Rattle.results.specs.Results.{verifyResult, verifyAt}
+use Rattle.results.proofs.Signed.{returned}
 use Rattle.tape.proofs.tape_verify.Statement.{statement}
 use Rattle.tape.proofs.tape_verify.Tie as tie
 

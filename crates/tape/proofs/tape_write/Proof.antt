@@ -6,8 +6,8 @@ use native.Mathlib.Omega.{arith}
 use Rattle.block.specs.declared.Written.{Written}
 use Rattle.block.specs.declared.Written.the-variants.{Length, Refused}
 use Rattle.block.proofs.Writes.{told-length}
-use Rattle.tape.specs.Results.{writeResult, LengthFits}
-use Rattle.tape.proofs.Signed.{returned}
+use Rattle.results.specs.Results.{writeResult, LengthFits}
+use Rattle.results.proofs.Signed.{returned}
 use Rattle.tape.proofs.tape_write.Statement.{statement}
 use Rattle.tape.proofs.tape_write.Tie as tie
 

@@ -17,11 +17,8 @@ use prog.Routine.{Routine}
 use prog.Wp.{Heap, Out, Env, afterSeq, afterBlock, afterTurn, Calls, Loops, Wp, atReturn, Tables}
 use ghost.Atoms.{Atoms}
 use contract.Monad.{Fun, fact}
-use types.Kit.{Given, Item, ‵, raw, _⊛_, some, later, runs, anyQ, atRet, Sq, _$_, !, by, move, keep, drop as let-go, use0, use1}
-use types.Kit.{use2, use3, group, split, pick, rewrite, fsplit, feqL, await}
-use types.Run.{look, init, store, store-raw, forget, stop, hop, fld, from, load, lit, addr, of-opd, bin, and-then, no-more}
-use types.Run.{assigns, assigns-last, land, first, skips, jumps, blocks, branches, returns, free1, free0, exec, Below, again}
-use types.Run.{loops}
+use types.Kit.{Given, Item, ‵, raw, _⊛_, some, later, runs, anyQ, atRet, Sq, _$_, !, by, move, keep, drop as let-go, use0, use1, use2, use3, group, split, pick, rewrite, fsplit, feqL, await}
+use types.Run.{look, init, store, store-raw, forget, stop, hop, fld, from, load, lit, addr, of-opd, bin, and-then, no-more, assigns, assigns-last, land, first, skips, jumps, blocks, branches, returns, free1, free0, exec, Below, again, loops}
 use types.Part.{agg, whole, sub, look-in}
 use types.Tokens.{lft-new, lft-end}
 use sound.WpLaws.{FmC, fmOf}
@@ -37,7 +34,7 @@ use denote.Triple.Statement.{Triple}
 use denote.Triple.Call.{calls-at}
 use denote.Triple.Clauses.{ensured, Lasts, lasts}
 use Rattle.published.specs.Picture.{areaSize}
-use Rattle.decoder.specs.Decoding.{cleared}
+use Rattle.voting.specs.Voting.{cleared}
 use Rattle.taperow.specs.declared.Record.{Record}
 use Rattle.block.specs.declared.Verified.{Verified}
 use Rattle.layout.specs.Layout.{tapeQ}
@@ -54,10 +51,8 @@ use Rattle.block.proofs.verdict.next_verdict.Symbol.{name as #next}
 use Rattle.taperow.proofs.row_record as row
 use Rattle.taperow.proofs.row_record.Symbol.{name as #row}
 use Rattle.block.proofs.verify.Code.Mir as code-mir
-use Rattle.block.proofs.verify.Proof.Ground.{Passed, word, sliceb, slicep, slicer, slicew, refe, slicee, Row, Next, sb}
-use Rattle.block.proofs.verify.Proof.Ground.{sp, sr, sw, xw, f, n, ys, ws, v₀, vs, OB, OP, OW, Post}
-use Rattle.block.proofs.verify.Proof.Standing.{Upto, Nearer, Nearer-wf, fits, here, kept, asked, further, step-fits}
-use Rattle.block.proofs.verify.Proof.Standing.{within, twice, at-end, last-is}
+use Rattle.block.proofs.verify.Proof.Ground.{Passed, word, sliceb, slicep, slicer, slicew, refe, slicee, Row, Next, sb, sp, sr, sw, xw, f, n, ys, ws, v₀, vs, OB, OP, OW, Post}
+use Rattle.block.proofs.verify.Proof.Standing.{Upto, Nearer, Nearer-wf, fits, here, kept, asked, further, step-fits, within, twice, at-end, last-is}
 use Rattle.block.proofs.verify.Proof.Callees.{to-row, goes-row, to-next, goes-next}
 use Rattle.block.proofs.verify.Proof.Exit.{typed-r, typed-v, exits}
 

@@ -7,7 +7,8 @@ use lib.Dec.{lit≤}
 use lib.ListN.{length, take, replicate}
 use lib.Seq.{length-take-le}
 use Rattle.curve.proofs.CodeLaws.{code-below, dimension-le}
-use Rattle.decoder.specs.Decoding.{voted, decoded}
+use Rattle.voting.specs.Voting.{voted}
+use Rattle.decoder.specs.Decoding.{decoded}
 use Rattle.trace.specs.Trace.{acceptLine, lastLine}
 use Rattle.trace.proofs.Small.{points-few}
 use Rattle.trace.proofs.Checked.{decode-answer, last-refused, last-accepted}

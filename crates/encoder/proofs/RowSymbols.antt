@@ -1,0 +1,38 @@
+-- Rows as numbers: how long they are, and that they are symbols.
+-- Assumes nothing.
+use mathlib.Core.Path.{_≡_, sym, _∙_}
+use mathlib.Core.Logic.{⊎-elim}
+use mathlib.Core.Bool.{false}
+use mathlib.Core.List.{List, map, _++_}
+use Prim.Native.Nat.{ℕ, _≤_}
+use native.Mathlib.Omega.{arith}
+use lib.ListN.{length, take, length-map}
+use lib.Seq.{take-at}
+use Rattle.symbols.specs.Rule.{Known, symbols, number, symbol, anyBeyond}
+use Rattle.symbols.proofs.SymbolLists.{numbers-below}
+use Rattle.curve.specs.Codes.{pointCount}
+use Rattle.curve.specs.Rows.{rowOf}
+use Rattle.curve.proofs.Arranged.{points-arranged}
+use Rattle.curve.proofs.RowLaws.{row-length}
+use Rattle.encoder.specs.Encoding.{rowNumbers}
+
+-- no row is longer than 64
+pub count-small : (q : ℕ) → Known q → pointCount q ≤ 64
+unfolding Known pointCount
+count-small q = ⊎-elim (λ (e : q ≡ 2). rw e (omega arith)) (λ (e : q ≡ 4). rw e (omega arith))
+
+module _ (q : ℕ) (known : Known q) (u : ℕ) where
+  -- a row has n symbols
+  pub row-count : (message : List ℕ) → length (rowNumbers q u message) ≡ pointCount q
+  unfolding rowNumbers
+  row-count message =
+      length-map (rowOf (symbols q) q u (map (symbol q) message)) (number q) ∙ row-length (points-arranged q known) u (map (symbol q) message)
+
+  -- all of them symbols of the field
+  pub row-symbols : (message : List ℕ) → anyBeyond q (rowNumbers q u message) ≡ false
+  unfolding rowNumbers
+  row-symbols message = numbers-below q known (rowOf (symbols q) q u (map (symbol q) message))
+
+  -- the first n symbols of what encoding wrote
+  pub row-first : (message sent rest : List ℕ) (n : ℕ) → n ≡ pointCount q → sent ≡ rowNumbers q u message ++ rest → take n sent ≡ rowNumbers q u message
+  row-first message sent rest n e w = rw w (take-at (rowNumbers q u message) rest n (row-count message ∙ sym e))

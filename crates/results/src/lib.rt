@@ -1,0 +1,90 @@
+// Each answer as one integer, since an enum does not cross to C: 0 or the count when done, minus the refusal's number when
+// refused.
+ghost use mathlib.Core.Path.{_≡_};
+ghost use Rattle.results.specs.Results.{
+  refusalResult,
+  encodeResult,
+  stopResult,
+  decodeResult,
+  verifyResult,
+  verifyAt,
+  writeResult,
+  CountFits,
+  LengthFits,
+};
+use block::Verified;
+use block::Written;
+use decoder::Decoded;
+use encoder::Encoded;
+use refusals::Refusal;
+use refusals::number_of;
+use steps::Stopped;
+
+// Negative, so that no refusal can be taken for a count or a verdict.
+fn of_refusal(why: Refusal) -> i64
+    ensures { λ r. ⌜ r ≡ refusalResult why ⌝ }
+{
+    let number = number_of(why);
+    -(number as i64)
+}
+
+pub fn of_encoding(answer: Encoded) -> i64
+    ensures { λ r. ⌜ r ≡ encodeResult answer ⌝ }
+{
+    match answer {
+        Encoded::Done => 0,
+        Encoded::Refused(why) => of_refusal(why),
+    }
+}
+
+pub fn of_stopping(answer: Stopped) -> i64
+    ensures { λ r. ⌜ r ≡ stopResult answer ⌝ }
+{
+    match answer {
+        Stopped::Done => 0,
+        Stopped::Refused(why) => of_refusal(why),
+    }
+}
+
+pub fn of_decoding(answer: Decoded) -> i64
+    requires { ⌜ CountFits answer ⌝ }
+    ensures { λ r. ⌜ r ≡ decodeResult answer ⌝ }
+{
+    match answer {
+        Decoded::Accepted(count) => count as i64,
+        Decoded::Refused(why) => of_refusal(why),
+    }
+}
+
+pub fn of_verifying(answer: Verified) -> i64
+    ensures { λ r. ⌜ r ≡ verifyResult answer ⌝ }
+{
+    match answer {
+        Verified::Copied(_) => 0,
+        Verified::Differs(_) => 1,
+        Verified::Unreadable(_) => 2,
+        Verified::Refused(why) => of_refusal(why),
+    }
+}
+
+// The total or the row; what was there before a refusal.
+pub fn place_of(answer: Verified, before: u64) -> u64
+    ensures { λ r. ⌜ r ≡ verifyAt answer before ⌝ }
+{
+    match answer {
+        Verified::Copied(total) => total as u64,
+        Verified::Differs(row) => row as u64,
+        Verified::Unreadable(row) => row as u64,
+        Verified::Refused(_) => before,
+    }
+}
+
+pub fn of_writing(answer: Written) -> i64
+    requires { ⌜ LengthFits answer ⌝ }
+    ensures { λ r. ⌜ r ≡ writeResult answer ⌝ }
+{
+    match answer {
+        Written::Length(bytes) => bytes as i64,
+        Written::Refused(why) => of_refusal(why),
+    }
+}
