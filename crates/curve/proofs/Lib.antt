@@ -6,3 +6,5 @@ pub mod MessageFunction
 pub mod RowLaws
 pub mod CodeLaws
 pub mod MonomialAnswers
+pub mod Naming
+pub mod GivenChecks

@@ -6,7 +6,16 @@ use mathlib.Core.List.{List}
 use Prim.Native.Nat.{ℕ}
 use lib.ListN.{length}
 use Rattle.symbols.specs.Rule.{Known, anyBeyond}
-use Rattle.curve.specs.Codes.{pointCount, isCode, dimension}
+use Rattle.curve.specs.declared.Code.{Code}
+use Rattle.curve.specs.Codes.{pointCount, isCode, dimension, reach}
+
+-- a code with the numbers that are its own
+pub record Valid (code : Code) : Type 0 where
+  pub known : Known (code .q)
+  pub accepted : isCode (code .q) (code .u) ≡ true
+  pub n-is : code .n ≡ pointCount (code .q)
+  pub k-is : code .k ≡ dimension (code .q) (code .u)
+  pub reach-is : code .reach ≡ reach (code .q) (code .u)
 
 -- q and u are a code, and these are n symbols
 pub record Given (q u n : ℕ) (given : List ℕ) : Type 0 where

@@ -8,8 +8,6 @@ use lib.Dec.{eqb}
 use lib.ListN.{getD}
 use Rattle.algebra.specs.Symbols.{power}
 use Rattle.symbols.specs.Rule.{symbols, number, symbol}
-use Rattle.curve.specs.declared.Point.{Point}
-use Rattle.curve.specs.Points.{pointAt}
 
 -- the four sets for q = 4
 unfoldable pub sets4 : List (List ℕ)
@@ -30,7 +28,3 @@ ordinateSet q norm = cond (eqb q 4) (getD sets4 (setPlace norm) []) (getD sets2 
 -- the ordinates above x
 unfoldable pub ordinatesAbove : ℕ → ℕ → List ℕ
 ordinatesAbove q x = ordinateSet q (number q (power (symbols q) (symbol q x) (q + 1)))
-
--- the numbers of point m
-unfoldable pub pointNumbers : ℕ → ℕ → Point
-pointNumbers q m = record { x = number q (pointAt (symbols q) q m .x); y = number q (pointAt (symbols q) q m .y) }

@@ -7,8 +7,8 @@ ghost use Rattle.algebra.specs.Weights.{gap};
 ghost use Rattle.symbols.specs.Rule.{Known, symbols, number, symbol};
 ghost use Rattle.symbols.specs.Tables.{productRow};
 ghost use Rattle.curve.specs.Codes.{pointCount, isCode, dimension as dimensionOf, reach as reachOf};
-ghost use Rattle.curve.specs.Answers.{monomialOf, codeAnswer};
-ghost use Rattle.curve.specs.Ordinates.{setPlace, ordinatesAbove, pointNumbers};
+ghost use Rattle.curve.specs.Answers.{monomialOf, named};
+ghost use Rattle.curve.specs.Ordinates.{setPlace, ordinatesAbove};
 
 // What a weight belongs to.
 pub enum Monomial {
@@ -18,16 +18,19 @@ pub enum Monomial {
     Powers { x: usize, y: usize },
 }
 
-// Whether q and u are a code.
-pub enum Acceptance {
-    Accepted,
-    Refused(Refusal),
+// A code: q and u, how many symbols a row and a message have, and the reach.
+pub struct Code {
+    pub q: usize,
+    pub u: usize,
+    pub n: usize,
+    pub k: usize,
+    pub reach: usize,
 }
 
-// A point by the numbers of its symbols.
-pub struct Point {
-    pub x: u8,
-    pub y: u8,
+// What q and u name.
+pub enum Named {
+    Code(Code),
+    Refused(Refusal),
 }
 
 // The sets of ordinates: for q = 4 those above x⁵ = 0, 1, 6 and 7, for q = 2 those above x³ = 0 and 1.
@@ -98,19 +101,6 @@ pub fn is_code(q: usize, u: usize) -> bool
     !is_gap(q, u)
 }
 
-// A code is accepted, or refused with 1 or 2.
-pub fn code(q: usize, u: usize) -> Acceptance
-    ensures { λ r. ⌜ r ≡ codeAnswer q u ⌝ }
-{
-    if !symbols::is_known(q) {
-        return Acceptance::Refused(Refusal::UnknownQ);
-    }
-    if !is_code(q, u) {
-        return Acceptance::Refused(Refusal::NoCode);
-    }
-    Acceptance::Accepted
-}
-
 // k, the length of a message.
 pub fn dimension(q: usize, u: usize) -> usize
     requires { ⌜ Known q × (u < pointCount q) ⌝ }
@@ -134,6 +124,22 @@ pub fn reach(q: usize, u: usize) -> usize
 {
     let n = point_count(q);
     if u < n { (n - u - 1) / 2 } else { 0 }
+}
+
+// The code that q and u name, or the refusal 1 or 2. Every call asks for it first and hands it on.
+pub fn code_of(q: usize, u: usize) -> Named
+    ensures { λ r. ⌜ r ≡ named q u ⌝ }
+{
+    if !symbols::is_known(q) {
+        return Named::Refused(Refusal::UnknownQ);
+    }
+    if !is_code(q, u) {
+        return Named::Refused(Refusal::NoCode);
+    }
+    let n = point_count(q);
+    let k = dimension(q, u);
+    let reach = reach(q, u);
+    Named::Code(Code { q, u, n, k, reach })
 }
 
 // x^(q+1), by the products of x: it chooses the set of ordinates.
@@ -175,19 +181,5 @@ pub fn ordinates(q: usize, products: [u8; 16]) -> [u8; 4]
     } else {
         let place = (norm % 2) as usize;
         SETS_2[place]
-    }
-}
-
-// Point number m, x rising and then y rising; past the last point the origin.
-pub fn point_at(q: usize, m: usize) -> Point
-    requires { ⌜ Known q ⌝ }
-    ensures { λ r. ⌜ r ≡ pointNumbers q m ⌝ }
-{
-    if m < point_count(q) {
-        let x = (m / q) as u8;
-        let above = ordinates(q, symbols::products_of(q, x));
-        Point { x, y: above[m % q] }
-    } else {
-        Point { x: 0, y: 0 }
     }
 }

@@ -71,6 +71,13 @@ module _ (q u : ℕ) (row work message corrected : List ℕ) where
       corrected-is = c ∙ sym corrected-left;
     }
 
+  -- what is answered and left, in a row
+  pub kept : {answer : Decoded} {work′ message′ corrected′ : List ℕ} → Promised answer work′ message′ corrected′
+      → (answer ≡ decodeAnswer q u row work message corrected)
+      × ((work′ ≡ decodeWork q u row work message corrected)
+      × ((message′ ≡ decodeMessage q u row work message corrected) × (corrected′ ≡ decodeCorrected q u row work message corrected)))
+  kept P = (P .answer-is, (P .work-is, (P .message-is, P .corrected-is)))
+
   -- an undamaged row is read back
   pub undamaged-clause : {answer : Decoded} {work′ message′ corrected′ : List ℕ} → Promised answer work′ message′ corrected′
       → Undamaged q u row work message corrected answer message′ corrected′

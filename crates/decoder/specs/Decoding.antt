@@ -1,15 +1,15 @@
 -- What decoding answers and leaves, for all inputs. Document 01, "The decoder's steps" (its end), "Lent areas", "Refusal
 -- numbers".
 -- Assumes nothing.
-use mathlib.Core.Bool.{true, false, not, _||_}
+use mathlib.Core.Bool.{true, false, _||_}
 use mathlib.Core.List.{List, [], _∷_, _++_}
 use Prim.Native.Nat.{ℕ, _+_}
-use lib.Dec.{leb, eqb, ltb}
+use lib.Dec.{leb, ltb}
 use lib.ListN.{length, drop}
-use Rattle.refusals.specs.declared.Refusal.the-variants.{UnknownQ, NoCode, WrongLength, NoSymbol, ShortWork, ShortOutput, BeyondReach}
+use Rattle.refusals.specs.declared.Refusal.the-variants.{ShortWork, ShortOutput, BeyondReach}
 use Rattle.refusals.specs.Numbers.{Check, _if_, firstOf}
-use Rattle.symbols.specs.Rule.{isKnown, anyBeyond}
-use Rattle.curve.specs.Codes.{pointCount, isCode, dimension, reach}
+use Rattle.curve.specs.Codes.{pointCount, dimension, reach}
+use Rattle.curve.specs.Answers.{codeChecks, symbolChecks}
 use Rattle.encoder.specs.Encoding.{rowNumbers}
 use Rattle.published.specs.Picture.{areaSize}
 use Rattle.decoder.specs.declared.Decoded.{Decoded}
@@ -32,13 +32,11 @@ decoded q u row = judgement q u (voted q u row) row
 -- 1, 2, 4, 5, 6, 7; then `decoded` may give 8
 unfoldable pub decodeChecks : ℕ → ℕ → List ℕ → List ℕ → List ℕ → List ℕ → List Check
 decodeChecks q u row work message corrected =
-    (UnknownQ if not (isKnown q))
-    ∷ (NoCode if not (isCode q u))
-    ∷ (WrongLength if not (eqb (length row) (pointCount q)))
-    ∷ (NoSymbol if anyBeyond q row)
-    ∷ (ShortWork if ltb (length work) (areaSize q))
+    codeChecks q u
+    ++ (symbolChecks q (pointCount q) row
+    ++ ((ShortWork if ltb (length work) (areaSize q))
     ∷ (ShortOutput if ltb (length message) (dimension q u) || ltb (length corrected) (pointCount q))
-    ∷ []
+    ∷ []))
 
 -- "decoding answers accepted with the count"
 unfoldable pub decodeAnswer : ℕ → ℕ → List ℕ → List ℕ → List ℕ → List ℕ → Decoded

@@ -1,10 +1,12 @@
 // A received row becomes the message that its votes give, or a refusal.
+use curve::Code;
+use curve::Named;
 use refusals::Refusal;
 ghost use mathlib.Core.Path.{_≡_};
 ghost use Rattle.published.specs.Picture.{areaSize};
 ghost use Rattle.decoder.specs.Decoding.{decoded, decodeAnswer, decodeWork, decodeMessage, decodeCorrected};
 ghost use Rattle.voting.specs.Voting.{cleared};
-ghost use Rattle.curve.specs.Given.{Received};
+ghost use Rattle.curve.specs.Given.{Valid, Received};
 ghost use Rattle.decoder.specs.FullRows.{Room, messageAfter, correctedAfter};
 ghost use Rattle.decoder.specs.Undamaged.{Undamaged};
 
@@ -16,33 +18,65 @@ pub enum Decoded {
 
 // Decodes a full row of symbols: votes, encodes the votes again, and accepts what is within reach.
 fn decode_row(
-    q: usize,
-    u: usize,
+    code: Code,
     row: &[u8],
     work: &mut [u8],
     message: &mut [u8],
     corrected: &mut [u8],
 ) -> Decoded
-    requires { ⌜ Received q u (now row) ⌝ }
-    requires { ⌜ Room q u (now work) (now message) (now corrected) ⌝ }
-    ensures { λ r. ⌜ r ≡ decoded q u (now (row .entry)) ⌝ }
-    ensures { λ _. ⌜ now (work .exit) ≡ cleared (areaSize q) (now (work .entry)) ⌝ }
-    ensures { λ _. ⌜ now (message .exit) ≡ messageAfter q u (now (row .entry)) (now (message .entry)) ⌝ }
-    ensures { λ _. ⌜ now (corrected .exit) ≡ correctedAfter q u (now (row .entry)) (now (corrected .entry)) ⌝ }
+    requires { ⌜ Valid code × Received (code .q) (code .u) (now row) ⌝ }
+    requires { ⌜ Room (code .q) (code .u) (now work) (now message) (now corrected) ⌝ }
+    ensures { λ r. ⌜ r ≡ decoded (code .q) (code .u) (now (row .entry)) ⌝ }
+    ensures { λ _. ⌜ now (work .exit) ≡ cleared (areaSize (code .q)) (now (work .entry)) ⌝ }
+    ensures { λ _. ⌜ now (message .exit) ≡ messageAfter (code .q) (code .u) (now (row .entry)) (now (message .entry)) ⌝ }
+    ensures { λ _. ⌜ now (corrected .exit) ≡ correctedAfter (code .q) (code .u) (now (row .entry)) (now (corrected .entry)) ⌝ }
 {
-    let n = curve::point_count(q);
-    let k = curve::dimension(q, u);
-    let most = curve::reach(q, u);
+    let n = code.n;
+    let k = code.k;
     let mut votes = [0u8; 64];
-    voting::vote_all(q, u, row, work, &mut votes);
+    voting::vote_all(code, row, work, &mut votes);
     let mut sent = [0u8; 64];
-    let count = judging::judge(q, u, &votes[..k], row, &mut sent);
-    if most < count {
+    let count = judging::judge(code, &votes[..k], row, &mut sent);
+    if code.reach < count {
         return Decoded::Refused(Refusal::BeyondReach);
     }
     bytes::copy(&votes[..k], message);
     bytes::copy(&sent[..n], corrected);
     Decoded::Accepted(count)
+}
+
+// Decoding under a code: refusals 4, 5, 6 and 7 in this order, then what the row decodes to.
+fn decode_under(
+    code: Code,
+    row: &[u8],
+    work: &mut [u8],
+    message: &mut [u8],
+    corrected: &mut [u8],
+) -> Decoded
+    requires { ⌜ Valid code ⌝ }
+    ensures { λ r. ⌜ r ≡ decodeAnswer (code .q) (code .u) (now (row .entry)) (now (work .entry)) (now (message .entry)) (now (corrected .entry)) ⌝ }
+    ensures { λ _. ⌜ now (work .exit) ≡ decodeWork (code .q) (code .u) (now (row .entry)) (now (work .entry)) (now (message .entry)) (now (corrected .entry)) ⌝ }
+    ensures { λ _. ⌜ now (message .exit)
+        ≡ decodeMessage (code .q) (code .u) (now (row .entry)) (now (work .entry)) (now (message .entry)) (now (corrected .entry)) ⌝ }
+    ensures { λ _. ⌜ now (corrected .exit)
+        ≡ decodeCorrected (code .q) (code .u) (now (row .entry)) (now (work .entry)) (now (message .entry)) (now (corrected .entry)) ⌝ }
+{
+    if row.len() != code.n {
+        return Decoded::Refused(Refusal::WrongLength);
+    }
+    if !symbols::all_symbols(code.q, row) {
+        return Decoded::Refused(Refusal::NoSymbol);
+    }
+    if work.len() < workarea::area_size(code.q) {
+        return Decoded::Refused(Refusal::ShortWork);
+    }
+    if message.len() < code.k {
+        return Decoded::Refused(Refusal::ShortOutput);
+    }
+    if corrected.len() < code.n {
+        return Decoded::Refused(Refusal::ShortOutput);
+    }
+    decode_row(code, row, work, message, corrected)
 }
 
 // Decodes a row: refusals 1, 2, 4, 5, 6 and 7 in this order, then 8 beyond reach; else accepted with the count.
@@ -63,27 +97,8 @@ pub fn decode(
     ensures undamaged { λ r. ⌜ Undamaged q u (now (row .entry)) (now (work .entry)) (now (message .entry)) (now (corrected .entry))
         r (now (message .exit)) (now (corrected .exit)) ⌝ }
 {
-    if !symbols::is_known(q) {
-        return Decoded::Refused(Refusal::UnknownQ);
+    match curve::code_of(q, u) {
+        Named::Code(code) => decode_under(code, row, work, message, corrected),
+        Named::Refused(why) => Decoded::Refused(why),
     }
-    if !curve::is_code(q, u) {
-        return Decoded::Refused(Refusal::NoCode);
-    }
-    let n = curve::point_count(q);
-    if row.len() != n {
-        return Decoded::Refused(Refusal::WrongLength);
-    }
-    if !symbols::all_symbols(q, row) {
-        return Decoded::Refused(Refusal::NoSymbol);
-    }
-    if work.len() < workarea::area_size(q) {
-        return Decoded::Refused(Refusal::ShortWork);
-    }
-    if message.len() < curve::dimension(q, u) {
-        return Decoded::Refused(Refusal::ShortOutput);
-    }
-    if corrected.len() < n {
-        return Decoded::Refused(Refusal::ShortOutput);
-    }
-    decode_row(q, u, row, work, message, corrected)
 }

@@ -1,14 +1,14 @@
 -- What encoding answers and writes, for all inputs. Document 01, "Lent areas" and "Refusal numbers".
 -- Assumes nothing.
-use mathlib.Core.Bool.{not}
 use mathlib.Core.List.{List, [], _∷_, _++_, map}
 use Prim.Native.Nat.{ℕ}
-use lib.Dec.{eqb, ltb}
+use lib.Dec.{ltb}
 use lib.ListN.{length, drop}
-use Rattle.refusals.specs.declared.Refusal.the-variants.{UnknownQ, NoCode, WrongLength, NoSymbol, ShortOutput}
+use Rattle.refusals.specs.declared.Refusal.the-variants.{ShortOutput}
 use Rattle.refusals.specs.Numbers.{Check, _if_, firstOf}
-use Rattle.symbols.specs.Rule.{isKnown, symbols, number, symbol, anyBeyond}
-use Rattle.curve.specs.Codes.{pointCount, isCode, dimension}
+use Rattle.symbols.specs.Rule.{symbols, number, symbol}
+use Rattle.curve.specs.Codes.{pointCount, dimension}
+use Rattle.curve.specs.Answers.{codeChecks, symbolChecks}
 use Rattle.curve.specs.Rows.{rowOf}
 use Rattle.encoder.specs.declared.Encoded.{Encoded}
 use Rattle.encoder.specs.declared.Encoded.the-variants.{Done, Refused}
@@ -20,12 +20,7 @@ rowNumbers q u message = map (number q) (rowOf (symbols q) q u (map (symbol q) m
 -- 1, 2, 4, 5, 7
 unfoldable pub encodeChecks : ℕ → ℕ → List ℕ → List ℕ → List Check
 encodeChecks q u message output =
-    (UnknownQ if not (isKnown q))
-    ∷ (NoCode if not (isCode q u))
-    ∷ (WrongLength if not (eqb (length message) (dimension q u)))
-    ∷ (NoSymbol if anyBeyond q message)
-    ∷ (ShortOutput if ltb (length output) (pointCount q))
-    ∷ []
+    codeChecks q u ++ (symbolChecks q (dimension q u) message ++ ((ShortOutput if ltb (length output) (pointCount q)) ∷ []))
 
 -- "Encoding and the stop service answer only that they are done"
 unfoldable pub encodeAnswer : ℕ → ℕ → List ℕ → List ℕ → Encoded

@@ -4,25 +4,16 @@
 use mathlib.Core.Path.{_≡_}
 use mathlib.Core.Bool.{true, false}
 use mathlib.Core.List.{List}
-use Prim.Native.Nat.{ℕ, _+_, _*_, _≤_, _<_}
+use Prim.Native.Nat.{ℕ, _+_, _*_, _<_}
 use lib.Dec.{ltb}
 use lib.ListN.{length, getD, replicate}
 use Rattle.algebra.specs.Weights.{weight}
 use Rattle.algebra.specs.Functions.{Fn, valueIn}
 use Rattle.lists.specs.Tables.{put}
-use Rattle.symbols.specs.Rule.{Known, Sym, symbols, number, symbol, anyBeyond}
+use Rattle.symbols.specs.Rule.{Known, Sym, symbols, number, symbol}
 use Rattle.symbols.specs.Tables.{productRow}
 use Rattle.curve.specs.Points.{pointAt}
-use Rattle.curve.specs.Codes.{pointCount, isCode, dimension}
 use Rattle.curve.specs.Ranks.{rank}
-
--- a message of the code and a row with room for what it becomes
-pub record Encodable (q u : ℕ) (message row : List ℕ) : Type 0 where
-  pub known : Known q
-  pub code : isCode q u ≡ true
-  pub long : length message ≡ dimension q u
-  pub symbolic : anyBeyond q message ≡ false
-  pub room : pointCount q ≤ length row
 
 -- the first n bytes are the numbers of α 0, α 1, ..
 abbrev pub Holds : (q : ℕ) → (ℕ → Sym q) → ℕ → List ℕ → Type 0

@@ -3,7 +3,7 @@
 use mathlib.Core.Path.{_≡_, refl, ap, _∙_}
 use mathlib.Core.Logic.{_⊎_, inl, inr}
 use mathlib.Core.Bool.{Bool, true, false}
-use mathlib.Core.List.{List, [], _∷_}
+use mathlib.Core.List.{List, [], _∷_, _++_}
 use Rattle.refusals.specs.declared.Refusal.{Refusal}
 use Rattle.refusals.specs.Numbers.{Check, firstOf}
 
@@ -36,6 +36,19 @@ module _ {ℓ} {A : Type ℓ} (refuse : Refusal → A) (otherwise : A) where
   unfolding firstOf
   passed done = refl
   passed (clear {c} {cs} h p) = first-fails c cs h ∙ passed p
+
+-- checks before others: the first of them that holds is the first of all, and where none holds the others decide
+pub refuses-front : {cs : List Check} (ds : List Check) {why : Refusal} → Refuses cs why → Refuses (cs ++ ds) why
+refuses-front ds (here h) = here h
+refuses-front ds (later h r) = later h (refuses-front ds r)
+
+pub refuses-behind : {cs ds : List Check} {why : Refusal} → Passes cs → Refuses ds why → Refuses (cs ++ ds) why
+refuses-behind done r = r
+refuses-behind (clear h p) r = later h (refuses-behind p r)
+
+pub passes-both : {cs ds : List Check} → Passes cs → Passes ds → Passes (cs ++ ds)
+passes-both done ps = ps
+passes-both (clear h p) ps = clear h (passes-both p ps)
 
 -- some check holds first, or none holds
 pub decideChecks : (cs : List Check) → ((why : Refusal) × Refuses cs why) ⊎ Passes cs

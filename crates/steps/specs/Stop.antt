@@ -1,15 +1,14 @@
 -- What the stop service answers and leaves, for all inputs. Document 01, "Lent areas" and "Refusal numbers".
 -- Assumes nothing.
-use mathlib.Core.Path.{_≡_}
-use mathlib.Core.Bool.{true, false, not}
 use mathlib.Core.List.{List, [], _∷_, _++_, map}
-use Prim.Native.Nat.{ℕ, _≤_}
-use lib.Dec.{eqb, ltb}
+use Prim.Native.Nat.{ℕ}
+use lib.Dec.{ltb}
 use lib.ListN.{length, drop}
-use Rattle.refusals.specs.declared.Refusal.the-variants.{UnknownQ, NoCode, TooManySteps, WrongLength, NoSymbol, ShortWork, ShortOutput}
+use Rattle.refusals.specs.declared.Refusal.the-variants.{TooManySteps, ShortWork, ShortOutput}
 use Rattle.refusals.specs.Numbers.{Check, _if_, firstOf}
-use Rattle.symbols.specs.Rule.{isKnown, Known, symbols, number, symbol, anyBeyond}
-use Rattle.curve.specs.Codes.{pointCount, isCode, dimension}
+use Rattle.symbols.specs.Rule.{symbols, number, symbol}
+use Rattle.curve.specs.Codes.{pointCount, dimension}
+use Rattle.curve.specs.Answers.{codeChecks, symbolChecks}
 use Rattle.published.specs.Start.{stepCount}
 use Rattle.published.specs.Steps.{State, after, messageOf}
 use Rattle.published.specs.Picture.{areaSize, picture}
@@ -28,27 +27,13 @@ pictureAfter q u row t = picture (symbols q) q (stateAfter q u row t .polys)
 unfoldable pub votesAfter : ℕ → ℕ → List ℕ → ℕ → List ℕ
 votesAfter q u row t = map (number q) (messageOf (symbols q) q u (stateAfter q u row t .votes))
 
--- there is nothing to refuse: a code, no more steps than there are, a full row of symbols, room in the area and the output
-pub record Steppable (q u steps : ℕ) (row : List ℕ) (work output : ℕ) : Type 0 where
-  pub known : Known q
-  pub code : isCode q u ≡ true
-  pub enough : steps ≤ stepCount q
-  pub long : length row ≡ pointCount q
-  pub symbolic : anyBeyond q row ≡ false
-  pub room : areaSize q ≤ work
-  pub places : dimension q u ≤ output
-
 -- 1, 2, 3, 4, 5, 6, 7
 unfoldable pub stopChecks : ℕ → ℕ → ℕ → List ℕ → List ℕ → List ℕ → List Check
 stopChecks q u steps row work output =
-    (UnknownQ if not (isKnown q))
-    ∷ (NoCode if not (isCode q u))
-    ∷ (TooManySteps if ltb (stepCount q) steps)
-    ∷ (WrongLength if not (eqb (length row) (pointCount q)))
-    ∷ (NoSymbol if anyBeyond q row)
-    ∷ (ShortWork if ltb (length work) (areaSize q))
-    ∷ (ShortOutput if ltb (length output) (dimension q u))
-    ∷ []
+    codeChecks q u
+    ++ ((TooManySteps if ltb (stepCount q) steps)
+    ∷ (symbolChecks q (pointCount q) row
+    ++ ((ShortWork if ltb (length work) (areaSize q)) ∷ (ShortOutput if ltb (length output) (dimension q u)) ∷ [])))
 
 unfoldable pub stopAnswer : ℕ → ℕ → ℕ → List ℕ → List ℕ → List ℕ → Stopped
 stopAnswer q u steps row work output = firstOf (stopChecks q u steps row work output) Refused Done

@@ -1,16 +1,14 @@
 -- The tape code's numbers, and decoding with it: the call's checks pass, so that its answer is the row's own.
 -- Assumes nothing.
 use mathlib.Core.Path.{_≡_, refl, sym, ap, _∙_}
-use mathlib.Core.Bool.{true, false, not, _||_}
+use mathlib.Core.Bool.{true, false}
 use mathlib.Core.List.{List, append-nil}
 use Prim.Native.Nat.{ℕ, _≤_}
 use native.Mathlib.Omega.{arith}
-use lib.Dec.{ltb}
 use lib.ListN.{length, drop-of-length-le}
-use borrow.Author.Tests.{eq-eqb, le-ltb}
 use Rattle.algebra.specs.Weights.{gap, nongap}
 use Rattle.lists.specs.Tables.{from, tab, keep}
-use Rattle.refusals.proofs.Checks.{Passes, done, clear, passed}
+use Rattle.refusals.proofs.Checks.{Passes, passed}
 use Rattle.symbols.specs.Rule.{isKnown, Known, anyBeyond}
 use Rattle.symbols.proofs.Bytes.{test-known}
 use Rattle.curve.specs.Codes.{pointCount, isCode, nongaps, dimension, reach}
@@ -20,6 +18,7 @@ use Rattle.decoder.specs.declared.Decoded.{Decoded}
 use Rattle.decoder.specs.declared.Decoded.the-variants.{Refused}
 use Rattle.voting.specs.Voting.{voted, cleared}
 use Rattle.decoder.specs.Decoding.{decoded, decodeChecks, decodeAnswer, decodeWork, ifAccepted, decodeMessage}
+use Rattle.decoder.proofs.DecodeChecks.{passes as no-check}
 use Rattle.layout.specs.Packing.{unpacked}
 use Rattle.layout.specs.Layout.{tapeQ, tapeU, rowLength}
 use Rattle.layout.proofs.Reading.{length-unpacked}
@@ -60,18 +59,13 @@ a-code = refl
 -- a row of 64 symbols with room for all that is written
 module _ (row work message corrected : List ℕ) (full : length row ≡ 64) (symbols : anyBeyond tapeQ row ≡ false)
     (room : areaSize tapeQ ≤ length work) (places : length message ≡ 40) (rest : length corrected ≡ 64) where
-  -- message and corrected row are long enough
-  long-enough : (ltb (length message) (dimension tapeQ tapeU) || ltb (length corrected) (pointCount tapeQ)) ≡ false
-  long-enough = rw (dimension-is, points-are, places, rest)
-
   -- no check holds
   passes : Passes (decodeChecks tapeQ tapeU row work message corrected)
-  unfolding decodeChecks
   passes =
-      clear (ap not known)
-      (clear (ap not a-code)
-      (clear (ap not (eq-eqb _ _ (full ∙ sym points-are)))
-      (clear symbols (clear (le-ltb _ _ room) (clear long-enough done)))))
+      no-check tapeQ tapeU row work message corrected
+      (record { known = known-tape; code = a-code; whole = full ∙ sym points-are; all-symbols = symbols })
+      (record { for-work = room; for-message = omega (arith, dimension-is, places); for-corrected = omega (arith, points-are, rest) })
+
 
   -- the answer is the row's own
   pub answers : decodeAnswer tapeQ tapeU row work message corrected ≡ decoded tapeQ tapeU row

@@ -3,10 +3,26 @@ ghost use mathlib.Core.Path.{_≡_};
 ghost use Prim.Native.Nat.{_+_, _*_, _≤_};
 ghost use lib.ListN.{length};
 ghost use lib.Seq.{paste};
+ghost use Rattle.curve.specs.Answers.{codeOf};
 ghost use Rattle.layout.specs.Packing.{packed};
+ghost use Rattle.layout.specs.Layout.{tapeQ, tapeU};
 ghost use Rattle.taperow.specs.Laying.{codeRow, packedRow};
+use curve::Code;
 use layout::pack;
 use layout::unpack;
+
+// The code of the tape: q = 4 and u = 45.
+fn tape_code() -> Code
+    ensures { λ code. ⌜ code ≡ codeOf tapeQ tapeU ⌝ }
+{
+    Code {
+        q: 4,
+        u: 45,
+        n: 64,
+        k: 40,
+        reach: 9,
+    }
+}
 
 // A message of 20 bytes becomes the 32 bytes of its row.
 fn encode_packed(original: &[u8], row: &mut [u8])
@@ -16,7 +32,8 @@ fn encode_packed(original: &[u8], row: &mut [u8])
     let mut message = [0u8; 40];
     unpack(original, &mut message);
     let mut symbols = [0u8; 64];
-    encoder::encode_row(4, 45, &message, &mut symbols);
+    let code = tape_code();
+    encoder::encode_row(code, &message, &mut symbols);
     pack(&symbols, row);
 }
 

@@ -1,4 +1,5 @@
 // The votes after all steps on a row, with the work area left zero.
+use curve::Code;
 ghost use mathlib.Core.Path.{_≡_};
 ghost use mathlib.Core.List.{_++_};
 ghost use Prim.Native.Nat.{_≤_};
@@ -6,17 +7,17 @@ ghost use lib.ListN.{length, drop};
 ghost use Rattle.curve.specs.Codes.{dimension};
 ghost use Rattle.published.specs.Picture.{areaSize};
 ghost use Rattle.voting.specs.Voting.{cleared, voted};
-ghost use Rattle.curve.specs.Given.{Received};
+ghost use Rattle.curve.specs.Given.{Valid, Received};
 
 // Puts the votes after all steps in the first k places of `votes`, and leaves its part of the work area zero.
-pub fn vote_all(q: usize, u: usize, row: &[u8], work: &mut [u8], votes: &mut [u8])
-    requires { ⌜ Received q u (now row) ⌝ }
-    requires { ⌜ (areaSize q ≤ length (now work)) × (dimension q u ≤ length (now votes)) ⌝ }
-    ensures { λ _. ⌜ now (work .exit) ≡ cleared (areaSize q) (now (work .entry)) ⌝ }
-    ensures { λ _. ⌜ now (votes .exit) ≡ voted q u (now (row .entry)) ++ drop (dimension q u) (now (votes .entry)) ⌝ }
+pub fn vote_all(code: Code, row: &[u8], work: &mut [u8], votes: &mut [u8])
+    requires { ⌜ Valid code × Received (code .q) (code .u) (now row) ⌝ }
+    requires { ⌜ (areaSize (code .q) ≤ length (now work)) × (dimension (code .q) (code .u) ≤ length (now votes)) ⌝ }
+    ensures { λ _. ⌜ now (work .exit) ≡ cleared (areaSize (code .q)) (now (work .entry)) ⌝ }
+    ensures { λ _. ⌜ now (votes .exit) ≡ voted (code .q) (code .u) (now (row .entry)) ++ drop (dimension (code .q) (code .u)) (now (votes .entry)) ⌝ }
 {
-    let count = steps::step_count(q);
-    let size = workarea::area_size(q);
-    steps::advance(q, u, count, row, work, votes);
+    let count = steps::step_count(code.q);
+    let size = workarea::area_size(code.q);
+    steps::advance(code, count, row, work, votes);
     workarea::clear(work, size);
 }

@@ -9,55 +9,44 @@ use borrow.Author.Needs.{needs}
 use denote.Ref.{now}
 use lib.ListN.{drop, replicate}
 use Rattle.curve.specs.Codes.{pointCount, dimension}
-use Rattle.curve.proofs.CodeLaws.{code-below, dimension-le}
 use Rattle.curve.specs.Given.{Received}
+use Rattle.curve.proofs.CodeLaws.{dimension-le}
 use Rattle.encoder.proofs.RowSymbols.{count-small}
 use Rattle.decoder.proofs.Judgements.{Voted, Judged, votes-count, votes-fit, votes-message, sent-count, sent-fit, beyond, within, message-kept, corrected-kept, message-written, corrected-written}
 use Rattle.decoder.proofs.decode_row.Statement.{statement}
 use Rattle.decoder.proofs.decode_row.Tie as tie
 
--- the places before: at the judgement, at the votes, at the entry
-abbrev voted-at : tie.After-sent2 → tie.After-votes2
-voted-at c = c .before .before .before .before
+-- the votes, and their row
+abbrev votes : (c : tie.After-votes2) → List ℕ
+votes c = c .before .before .before .vote-all .last .1 .1 .1 .0
 
-abbrev entry : tie.After-votes2 → tie.Start
-entry c = c .before .before .before .before .before .before .before .before .before .before .before .before .before
+abbrev sent : (c : tie.After-sent2) → List ℕ
+sent c = c .before .judge .last .1 .1 .1 .0
 
--- the votes, their number, and how many symbols a row has
-abbrev votes : tie.After-votes2 → List ℕ
-votes c = c .before .before .before .vote-all .last .1 .1 .1 .1 .0
+voting : (c : tie.After-votes2) → let at = c .before .before .before .before .before .before .before .before .before .before in
+    Voted (at .args .code .q) (at .args .code .u) (now (at .args .row)) (votes c) (at .args .code .k)
+voting c =
+    let at = c .before .before .before .before .before .before .before .before .before .before in
+    record {
+      input = at .pre .0 .1;
+      k-is = at .pre .0 .0 .k-is;
+      rest = drop (dimension (at .args .code .q) (at .args .code .u)) (replicate 64 0);
+      votes-are = c .before .before .before .vote-all .ensures .1;
+    }
 
-abbrev k : tie.After-votes2 → ℕ
-k c = c .before .before .before .before .before .before .before .dimension .result
-
-abbrev n : tie.After-votes2 → ℕ
-n c = c .before .before .before .before .before .before .before .before .point-count .result
-
-abbrev most : tie.After-votes2 → ℕ
-most c = c .before .before .before .before .before .before .reach .result
-
-abbrev sent : tie.After-sent2 → List ℕ
-sent c = c .before .judge .last .1 .1 .1 .1 .0
-
-voting : (c : tie.After-votes2) → Voted (entry c .args .q) (entry c .args .u) (now (entry c .args .row)) (votes c) (k c)
-voting c = record {
-  input = entry c .pre .0;
-  k-is = c .before .before .before .before .before .before .before .dimension .ensures;
-  rest = drop (dimension (entry c .args .q) (entry c .args .u)) (replicate 64 0);
-  votes-are = c .before .before .before .vote-all .ensures .1;
-}
-
-judging : (c : tie.After-sent2)
-    → Judged (entry (voted-at c) .args .q) (entry (voted-at c) .args .u) (now (entry (voted-at c) .args .row)) (votes (voted-at c)) (sent c)
-    (k (voted-at c)) (n (voted-at c)) (most (voted-at c)) (c .before .judge .result)
-judging c = record {
-  votes-of = voting (voted-at c);
-  n-is = voted-at c .before .before .before .before .before .before .before .before .point-count .ensures;
-  most-is = voted-at c .before .before .before .before .before .before .reach .ensures;
-  rest = drop (pointCount (entry (voted-at c) .args .q)) (replicate 64 0);
-  sent-is = c .before .judge .ensures .1;
-  count-is = c .before .judge .ensures .0;
-}
+judging : (c : tie.After-sent2) → let at = c .before .before .before .before .before .before .before .before .before .before .before .before .before .before in
+    Judged (at .args .code .q) (at .args .code .u) (now (at .args .row)) (votes (c .before .before .before .before)) (sent c)
+    (at .args .code .k) (at .args .code .n) (at .args .code .reach) (c .before .judge .result)
+judging c =
+    let at = c .before .before .before .before .before .before .before .before .before .before .before .before .before .before in
+    record {
+      votes-of = voting (c .before .before .before .before);
+      n-is = at .pre .0 .0 .n-is;
+      most-is = at .pre .0 .0 .reach-is;
+      rest = drop (pointCount (at .args .code .q)) (replicate 64 0);
+      sent-is = c .before .judge .ensures .1;
+      count-is = c .before .judge .ensures .0;
+    }
 
 -- no code has more than 64 symbols in a row or a message
 fits-row : {q u : ℕ} {row : List ℕ} → Received q u row → pointCount q ≤ 64
@@ -66,20 +55,11 @@ fits-row {q} R = count-small q (R .known)
 fits-message : {q u : ℕ} {row : List ℕ} → Received q u row → dimension q u ≤ 64
 fits-message {q} {u} R = omega (arith, count-small q (R .known), dimension-le q u (R .code))
 
-point-count-requires : tie.Need-point-count-requires
-point-count-requires c κs = c .before .before .before .before .pre .0 .known
-
-dimension-requires : tie.Need-dimension-requires
-dimension-requires c κs = let input = c .before .before .before .before .before .pre .0 in (input .known, code-below _ _ (input .code))
-
-reach-requires : tie.Need-reach-requires
-reach-requires c κs = c .before .before .before .before .before .before .pre .0 .known
-
 slice-aggregate-vote-all : tie.Need-slice-aggregate-vote-all
 slice-aggregate-vote-all c = search needs
 
 vote-all-requires : tie.Need-vote-all-requires
-vote-all-requires c κs = let at = c .before .before .before .before .before .before .before .before .before in (at .pre .0, (at .pre .1 .for-work, fits-message (at .pre .0)))
+vote-all-requires c κs = let at = c .before .before .before .before .before .before in (at .pre .0, (at .pre .1 .for-work, fits-message (at .pre .0 .1)))
 
 array-share-prefix-votes : tie.Need-array-share-prefix-votes
 array-share-prefix-votes c = votes-fit (voting c)
@@ -92,39 +72,41 @@ slice-aggregate-judge-2 c = search needs
 
 judge-requires : tie.Need-judge-requires
 judge-requires c κs =
-    let at = c .before .before in
-    (votes-message (voting at), (entry at .pre .0 .whole, fits-row (entry at .pre .0)))
+    let at = c .before .before .before .before .before .before .before .before .before .before .before .before in
+    ((at .pre .0 .0, votes-message (voting (c .before .before))), (at .pre .0 .1 .whole, fits-row (at .pre .0 .1)))
 
 same-length : tie.Need-same-length
 same-length c = search needs
 
 returns : tie.Need-returns
 returns c =
-    let at = entry (voted-at (c .before)) in
-    let J = judging (c .before) in
-    (sym (beyond J (c .if1 .taken)), (voted-at (c .before) .before .before .before .vote-all .ensures .0, (message-kept J (now (at .args .message)) (c .if1 .taken), corrected-kept J (now (at .args .corrected)) (c .if1 .taken))))
+    let at = c .before .before .before .before .before .before .before .before .before .before .before .before .before .before .before .before in
+    let J = judging (c .before .before) in (
+      sym (beyond J (c .if1 .taken)),
+      (c .before .before .before .before .before .before .before .before .before .vote-all .ensures .0, (message-kept J (now (at .args .message)) (c .if1 .taken), corrected-kept J (now (at .args .corrected)) (c .if1 .taken))),
+    )
 
 array-share-prefix-votes-2 : tie.Need-array-share-prefix-votes-2
-array-share-prefix-votes-2 c = votes-fit (voting (voted-at (c .before)))
+array-share-prefix-votes-2 c = votes-fit (voting (c .before .before .before .before .before .before))
 
 slice-aggregate-copy : tie.Need-slice-aggregate-copy
-slice-aggregate-copy c = sym (votes-count (voting (voted-at (c .before .before))))
+slice-aggregate-copy c = sym (votes-count (voting (c .before .before .before .before .before .before .before)))
 
 copy-requires : tie.Need-copy-requires
 copy-requires c κs =
-    let at = voted-at (c .before .before .before) in
-    omega (arith, votes-count (voting at), voting at .k-is, entry at .pre .1 .for-message)
+    let at = c .before .before .before .before .before .before .before .before .before .before .before .before .before .before .before .before .before .before in
+    omega (arith, votes-count (voting (c .before .before .before .before .before .before .before .before)), at .pre .0 .0 .k-is, at .pre .1 .for-message)
 
 array-share-prefix-sent : tie.Need-array-share-prefix-sent
-array-share-prefix-sent c = sent-fit (judging (c .before .before .before .before .before .before))
+array-share-prefix-sent c = sent-fit (judging (c .before .before .before .before .before .before .before))
 
 slice-aggregate-copy-2 : tie.Need-slice-aggregate-copy-2
-slice-aggregate-copy-2 c = sym (sent-count (judging (c .before .before .before .before .before .before .before)))
+slice-aggregate-copy-2 c = sym (sent-count (judging (c .before .before .before .before .before .before .before .before)))
 
 copy-requires-2 : tie.Need-copy-requires-2
 copy-requires-2 c κs =
-    let at = c .before .before .before .before .before .before .before .before in
-    omega (arith, sent-count (judging at), judging at .n-is, entry (voted-at at) .pre .1 .for-corrected)
+    let at = c .before .before .before .before .before .before .before .before .before .before .before .before .before .before .before .before .before .before .before .before .before .before .before in
+    omega (arith, sent-count (judging (c .before .before .before .before .before .before .before .before .before)), at .pre .0 .0 .n-is, at .pre .1 .for-corrected)
 
 same-length-2 : tie.Need-same-length-2
 same-length-2 c = search needs
@@ -137,15 +119,15 @@ same-length-4 c = search needs
 
 returns-2 : tie.Need-returns-2
 returns-2 c =
-    let kept = c .before .before .before .before .before .before .before .before .before .before in
-    let at = entry (voted-at (kept .before)) in
-    let J = judging (kept .before) in (
-      sym (within J (kept .if1 .left)),
+    let at = c .before .before .before .before .before .before .before .before .before .before .before .before .before .before .before .before .before .before .before .before .before .before .before .before .before .before in
+    let J = judging (c .before .before .before .before .before .before .before .before .before .before .before .before) in
+    let near = c .before .before .before .before .before .before .before .before .before .before .if1 .left in (
+      sym (within J near),
       (
-        voted-at (kept .before) .before .before .before .vote-all .ensures .0,
+        c .before .before .before .before .before .before .before .before .before .before .before .before .before .before .before .before .before .before .before .vote-all .ensures .0,
         (
-          message-written J _ (now (at .args .message)) (kept .if1 .left) (c .before .before .before .before .before .before .before .copy .ensures .1),
-          corrected-written J _ (now (at .args .corrected)) (kept .if1 .left) (c .before .before .copy2 .ensures .1),
+          message-written J _ (now (at .args .message)) near (c .before .before .before .before .before .before .before .copy .ensures .1),
+          corrected-written J _ (now (at .args .corrected)) near (c .before .before .copy2 .ensures .1),
         ),
       ),
     )
@@ -154,9 +136,6 @@ pub decode-row-spec : {M : Type 1} → statement M
 decode-row-spec =
     tie.close
     (tie.spec
-    point-count-requires
-    dimension-requires
-    reach-requires
     slice-aggregate-vote-all
     vote-all-requires
     array-share-prefix-votes

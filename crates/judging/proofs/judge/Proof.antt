@@ -1,4 +1,4 @@
--- `decoder::judging::judge` meets its contract. Assumes nothing.
+-- `judging::judge` meets its contract. Assumes nothing.
 use mathlib.Core.Path.{sym, ap, _∙_}
 use borrow.Author.Needs.{needs}
 use denote.Ref.{now}
@@ -11,33 +11,24 @@ use Rattle.judging.proofs.judge.Tie as tie
 encode-row-requires : tie.Need-encode-row-requires
 encode-row-requires c κs =
     let pre = c .before .before .before .before .pre in
-    record {
-      known = pre .0 .known;
-      code = pre .0 .code;
-      long = pre .0 .whole;
-      symbolic = pre .0 .all-symbols;
-      room = pre .1 .1;
-    }
-
-point-count-requires : tie.Need-point-count-requires
-point-count-requires c κs = c .before .before .before .before .before .before .before .pre .0 .known
+    (pre .0 .0, pre .0 .1, pre .1 .1)
 
 slice-reshare-prefix-count-differing : tie.Need-slice-reshare-prefix-count-differing
 slice-reshare-prefix-count-differing c = search needs
 
 slice-aggregate-count-differing : tie.Need-slice-aggregate-count-differing
 slice-aggregate-count-differing c =
-    let encoded = c .before .before .before .before in
+    let encoded = c .before .before .before in
     let at = encoded .before .before .before .before .before in
-    let first = row-first (at .args .q) (at .pre .0 .known) (at .args .u) (now (at .args .message)) _ _ _ (c .before .point-count .ensures) (encoded .encode-row .ensures) in
-    c .before .point-count .ensures ∙ sym (ap length first ∙ row-count (at .args .q) (at .pre .0 .known) (at .args .u) (now (at .args .message)))
+    let first = row-first (at .args .code .q) (at .pre .0 .0 .known) (at .args .code .u) (now (at .args .message)) _ _ _ (at .pre .0 .0 .n-is) (encoded .encode-row .ensures) in
+    at .pre .0 .0 .n-is ∙ sym (ap length first ∙ row-count (at .args .code .q) (at .pre .0 .0 .known) (at .args .code .u) (now (at .args .message)))
 
 count-differing-requires : tie.Need-count-differing-requires
 count-differing-requires c κs =
-    let encoded = c .before .before .before .before in
+    let encoded = c .before .before .before in
     let at = encoded .before .before .before .before .before in
-    let first = row-first (at .args .q) (at .pre .0 .known) (at .args .u) (now (at .args .message)) _ _ _ (c .before .point-count .ensures) (encoded .encode-row .ensures) in
-    ap length first ∙ row-count (at .args .q) (at .pre .0 .known) (at .args .u) (now (at .args .message)) ∙ sym (at .pre .1 .0)
+    let first = row-first (at .args .code .q) (at .pre .0 .0 .known) (at .args .code .u) (now (at .args .message)) _ _ _ (at .pre .0 .0 .n-is) (encoded .encode-row .ensures) in
+    ap length first ∙ row-count (at .args .code .q) (at .pre .0 .0 .known) (at .args .code .u) (now (at .args .message)) ∙ sym (at .pre .1 .0)
 
 same-length : tie.Need-same-length
 same-length c = search needs
@@ -45,9 +36,9 @@ same-length c = search needs
 returns : tie.Need-returns
 unfolding countOf
 returns c =
-    let encoded = c .before .before .before .before .before in
+    let encoded = c .before .before .before .before in
     let at = encoded .before .before .before .before .before in
-    let first = row-first (at .args .q) (at .pre .0 .known) (at .args .u) (now (at .args .message)) _ _ _ (c .before .before .point-count .ensures) (encoded .encode-row .ensures) in
+    let first = row-first (at .args .code .q) (at .pre .0 .0 .known) (at .args .code .u) (now (at .args .message)) _ _ _ (at .pre .0 .0 .n-is) (encoded .encode-row .ensures) in
     (c .count-differing .ensures ∙ ap (λ l. differing l (now (at .args .row))) first, encoded .encode-row .ensures)
 
 pub judge-spec : {M : Type 1} → statement M
@@ -55,7 +46,6 @@ judge-spec =
     tie.close
     (tie.spec
     encode-row-requires
-    point-count-requires
     slice-reshare-prefix-count-differing
     slice-aggregate-count-differing
     count-differing-requires

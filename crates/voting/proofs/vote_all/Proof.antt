@@ -1,4 +1,4 @@
--- `decoder::voting::vote_all` meets its contract. Assumes nothing.
+-- `voting::vote_all` meets its contract. Assumes nothing.
 use native.Mathlib.Omega.{arith}
 use borrow.Author.Needs.{needs}
 use denote.Ref.{now}
@@ -9,32 +9,23 @@ use Rattle.voting.proofs.vote_all.Statement.{statement}
 use Rattle.voting.proofs.vote_all.Tie as tie
 
 step-count-requires : tie.Need-step-count-requires
-step-count-requires c κs = c .before .before .before .pre .0 .known
+step-count-requires c κs = c .before .before .before .pre .0 .0 .known
 
 area-size-requires : tie.Need-area-size-requires
-area-size-requires c κs = c .before .before .before .before .pre .0 .known
+area-size-requires c κs = c .before .before .before .before .pre .0 .0 .known
 
 advance-requires : tie.Need-advance-requires
 advance-requires c κs =
     let steps = c .before .before .before in
     let at = steps .before .before .before .before in
-    let input = at .pre .0 in
-    record {
-      known = input .known;
-      code = input .code;
-      enough = omega (arith, steps .step-count .ensures);
-      long = input .whole;
-      symbolic = input .all-symbols;
-      room = at .pre .1 .0;
-      places = at .pre .1 .1;
-    }
+    ((at .pre .0 .0, at .pre .0 .1, omega (arith, steps .step-count .ensures)), at .pre .1)
 
 clear-requires : tie.Need-clear-requires
 clear-requires c κs =
     let advanced = c .before .before .before .before .before in
     let size = advanced .before .before .before in
     let at = size .before .before .before .before .before in
-    picture-room (at .args .q) (at .args .u) (now (at .args .row)) _ (now (at .args .work)) _ _
+    picture-room (at .args .code .q) (at .args .code .u) (now (at .args .row)) _ (now (at .args .work)) _ _
     (size .area-size .ensures) (advanced .advance .ensures .0)
 
 same-length : tie.Need-same-length
@@ -51,9 +42,9 @@ returns c =
     let steps = size .before in
     let at = steps .before .before .before .before in
     let row = now (at .args .row) in (
-      picture-cleared (at .args .q) (at .args .u) row _ (now (at .args .work)) _ _
+      picture-cleared (at .args .code .q) (at .args .code .u) row _ (now (at .args .work)) _ _
           (size .area-size .ensures) (advanced .advance .ensures .0) _ (c .before .before .clear .ensures),
-      voted-after (at .args .q) (at .pre .0 .known) (at .args .u) row _ _ (steps .step-count .result) (steps .step-count .ensures) (advanced .advance .ensures .1),
+      voted-after (at .args .code .q) (at .pre .0 .0 .known) (at .args .code .u) row _ _ (steps .step-count .result) (steps .step-count .ensures) (advanced .advance .ensures .1),
     )
 
 pub vote-all-spec : {M : Type 1} → statement M

@@ -1,6 +1,7 @@
 -- `taperow::laying::encode_packed` meets its contract: unpacked, encoded, packed. Assumes nothing.
 use mathlib.Core.Path.{refl, _∙_}
 use native.Mathlib.Omega.{arith}
+use lib.ListN.{replicate}
 use denote.Ref.{now}
 use borrow.Author.Needs.{needs}
 use Rattle.taperow.proofs.Encoded.{encodable, filled-length, filled-symbols, packed-filled}
@@ -13,6 +14,9 @@ slice-aggregate-unpack c = search needs
 unpack-requires : tie.Need-unpack-requires
 unpack-requires c κs = search needs
 
+tape-code-requires : tie.Need-tape-code-requires
+tape-code-requires c κs = search needs
+
 slice-aggregate-encode-row : tie.Need-slice-aggregate-encode-row
 slice-aggregate-encode-row c = search needs
 
@@ -21,30 +25,29 @@ slice-aggregate-encode-row-2 c = search needs
 
 encode-row-requires : tie.Need-encode-row-requires
 encode-row-requires c κs =
-    let message = c .before .before .before .unpack in
-    encodable _ (message .last .1 .0) _ (message .ensures .0) (message .ensures .1) refl
+    let message = c .before .before .before .before .unpack in
+    encodable _ _ (message .last .1 .0) (replicate 64 0) (c .before .before .tape-code .ensures) (message .ensures .0) (message .ensures .1) refl
 
 slice-aggregate-pack : tie.Need-slice-aggregate-pack
 slice-aggregate-pack c = search needs
 
 pack-requires : tie.Need-pack-requires
 pack-requires c κs =
-    let row = c .before .before .before in
-    let start = row .before .before .before .before .before .before .before .before in
-    let long = filled-length _ _ _ (row .encode-row .ensures) refl in
-    (omega (arith, long, start .pre .1), filled-symbols _ _ _ (row .encode-row .ensures) refl)
+    let tape = c .before .before .before .before .before .before .tape-code .ensures in
+    let row = c .before .before .before .encode-row .ensures in
+    let long = filled-length _ _ _ _ tape row refl in
+    (omega (arith, long, c .before .before .before .before .before .before .before .before .before .before .before .before .pre .1), filled-symbols _ _ _ _ tape row refl)
 
 same-length : tie.Need-same-length
 same-length c = search needs
 
 returns : tie.Need-returns
 returns c =
-    let row = c .before .before .before .before .before .before in
-    let message = row .before .before .before .before in
-    let start = message .before .before .before .before in
+    let start = c .before .before .before .before .before .before .before .before .before .before .before .before .before .before .before in
     c .before .before .pack .ensures
     ∙ (rw (start .pre .1)
-    (packed-filled _ _ _ (row .encode-row .ensures) refl (now (start .args .original)) (message .unpack .ensures .0)))
+    (packed-filled _ _ _ _ (c .before .before .before .before .before .before .before .before .before .tape-code .ensures) (c .before .before .before .before .before .before .encode-row .ensures) refl (now (start .args .original))
+    (c .before .before .before .before .before .before .before .before .before .before .before .unpack .ensures .0)))
 
 pub encode-packed-spec : {M : Type 1} → statement M
 encode-packed-spec =
@@ -52,6 +55,7 @@ encode-packed-spec =
     (tie.spec
     slice-aggregate-unpack
     unpack-requires
+    tape-code-requires
     slice-aggregate-encode-row
     slice-aggregate-encode-row-2
     encode-row-requires

@@ -1,0 +1,10 @@
+-- `taperow::laying::tape_code` meets its contract: the numbers are those of q = 4 and u = 45. Assumes nothing.
+use Rattle.taperow.proofs.Tape.{points-are, dimension-is, reach-is}
+use Rattle.taperow.proofs.laying.tape_code.Statement.{statement}
+use Rattle.taperow.proofs.laying.tape_code.Tie as tie
+
+returns : tie.Need-returns
+returns c = rw (points-are, dimension-is, reach-is)
+
+pub tape-code-spec : {M : Type 1} → statement M
+tape-code-spec = tie.close (tie.spec returns)
