@@ -1,6 +1,6 @@
 -- `symbols::sixteen_of` meets its contract. The loop's invariant: the places passed hold the table's part, and the others are
 -- still zero. Assumes nothing.
-use mathlib.Core.Path.{_≡_, refl, sym, ap, _∙_}
+use mathlib.Core.Path.{_≡_, sym, ap, _∙_}
 use mathlib.Core.Logic.{inr}
 use Prim.Native.Nat.{ℕ, _-_, _≤_, _<_}
 use native.Mathlib.Omega.{arith}
