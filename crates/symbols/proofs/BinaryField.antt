@@ -1,5 +1,5 @@
--- The symbols of a q whose q² is a power of two are a field if each number but 0 times its inverse is 1. Only this law depends
--- on what products are reduced by; all others hold for any such q.
+-- The symbols of a q whose q² is a power of two are a field if each number but 0 times its inverse is 1. Only this depends on
+-- what products are reduced by; the other laws hold for any such q, or follow from it.
 -- Assumes nothing.
 use mathlib.Core.Path.{_≡_, refl, sym, ap, ap₂, _∙_}
 use mathlib.Core.Logic.{_≢_, ⊎-elim}
