@@ -1,6 +1,10 @@
 pub mod Tested
-pub mod FieldLaws
 pub mod Bytes
+mod Xor
+mod DigitProducts
+mod DigitRing
+mod BinaryField
+pub mod FieldLaws
 pub mod TableRules
 pub mod SymbolLists
 mod Squaring

@@ -28,18 +28,20 @@ size q = suc (q * q - 1)
 unfoldable pub reducedBy : ℕ → ℕ
 reducedBy q = cond (eqb q 2) 7 19
 
--- a·x for a = 2: one digit up, and reduced where that reaches q²
-unfoldable pub twice : ℕ → ℕ → ℕ
-twice q x = cond (ltb (x * 2) (q * q)) (x * 2) (bitXor (x * 2) (reducedBy q))
+-- products in binary digits: of numbers below n, reduced by r
+module _ (n r : ℕ) where
+  -- a·x for a = 2: one digit up, and reduced where that reaches n
+  unfoldable pub twice : ℕ → ℕ
+  twice x = cond (ltb (x * 2) n) (x * 2) (bitXor (x * 2) r)
 
--- the sum of those among x, 2·x, 4·x, .. that the lowest n digits of y choose
-unfoldable pub chosen : ℕ → ℕ → ℕ → ℕ → ℕ
-chosen q zero x y = 0
-chosen q (suc n) x y = bitXor (x * (y % 2)) (chosen q n (twice q x) (y / 2))
+  -- the sum of those among x, 2·x, 4·x, .. that the lowest d digits of y choose
+  unfoldable pub chosen : ℕ → ℕ → ℕ → ℕ
+  chosen zero x y = 0
+  chosen (suc d) x y = bitXor (x * (y % 2)) (chosen d (twice x) (y / 2))
 
 -- the product; no symbol has more than q digits
 unfoldable pub product : ℕ → ℕ → ℕ → ℕ
-product q x y = chosen q q x y
+product q x y = chosen (q * q) (reducedBy q) q x y
 
 -- x^n
 unfoldable pub powerOf : ℕ → ℕ → ℕ → ℕ

@@ -1,6 +1,7 @@
 // Runs verification where it is refused, by each number alone and by the first of several, on a full block, and with records
 // as structs.
 use block::Record;
+use block::Verified;
 use block::verify;
 use block::verify_bytes;
 use libc::STDOUT_FILENO;
@@ -10,78 +11,118 @@ ghost use lib.ListN.{length, replicate};
 ghost use Rattle.block.specs.Verification.{verifyRecords};
 ghost use Rattle.verify_cases.specs.Blank.{blank};
 
-// Verifies, and writes the case's name and the verdict.
-fn run(name: &[u8], block: &[u8], payload: &[u8], records: &mut [u8], work: &mut [u8]) {
-    let verdict = verify_bytes(block, payload, records, work);
+// Writes a case's name and its verdict.
+fn tell(name: &[u8], verdict: Verified) {
     let mut line = [0u8; 32];
     let end = blocktext::verdict_text(verdict, &mut line);
     io::write_all(STDOUT_FILENO, name);
     io::write_all(STDOUT_FILENO, &line[..end]);
 }
 
-// A block of one row whose symbols are all 0, and each way to be refused; all but one at once, and fewer.
-fn one_row() {
-    let mut block = [0u8; 40];
-    block[3] = 36;
-    block[4] = 1;
-    block[5] = 45;
-    block[7] = 1;
-    let payload = [0u8; 20];
-    let mut records = [0u8; 2];
-    let mut half = [0u8; 1];
+// Verifies, and writes the case's name and the verdict.
+fn run(name: &[u8], block: &[u8], payload: &[u8], records: &mut [u8], work: &mut [u8]) {
+    tell(name, verify_bytes(block, payload, records, work));
+}
+
+// How many bytes a case lends: of the block, the payload, the records and the work area.
+struct Lengths(usize, usize, usize, usize);
+
+// The header of one row, and what it takes to verify that row.
+const HEADER: [u8; 8] = [0, 0, 0, 36, 1, 45, 0, 1];
+
+const ENOUGH: Lengths = Lengths(40, 20, 2, 1472);
+
+// Verifies with the first bytes of each, so many as are to be lent.
+fn cut(
+    name: &[u8],
+    block: &[u8],
+    payload: &[u8],
+    records: &mut [u8],
+    work: &mut [u8],
+    lengths: Lengths,
+)
+    requires { ⌜ (lengths .0 ≤ length (now block)) × (lengths .1 ≤ length (now payload)) ⌝ }
+    requires { ⌜ (lengths .2 ≤ length (now records)) × (lengths .3 ≤ length (now work)) ⌝ }
+{
+    let b = lengths.0;
+    let p = lengths.1;
+    let r = lengths.2;
+    let w = lengths.3;
+    run(
+        name,
+        &block[..b],
+        &payload[..p],
+        &mut records[..r],
+        &mut work[..w],
+    );
+}
+
+// A case whose symbols are all 0, under a header that may be wrong.
+fn zeros(name: &[u8], header: [u8; 8], lengths: Lengths)
+    requires { ⌜ (lengths .0 ≤ 32808) × (lengths .1 ≤ 20500) × (lengths .2 ≤ 2050) × (lengths .3 ≤ 1472) ⌝ }
+{
+    let mut block = [0u8; 32808];
+    block[0] = header[0];
+    block[1] = header[1];
+    block[2] = header[2];
+    block[3] = header[3];
+    block[4] = header[4];
+    block[5] = header[5];
+    block[6] = header[6];
+    block[7] = header[7];
+    let payload = [0u8; 20500];
+    let mut records = [0u8; 2050];
     let mut work = [0u8; 1472];
-    let mut short = [0u8; 1471];
-    run(b"one row: ", &block, &payload, &mut records, &mut work);
-    run(
-        b"block of 39: ",
-        &block[..39],
-        &payload,
-        &mut records,
-        &mut work,
-    );
-    run(
-        b"payload of 19: ",
-        &block,
-        &payload[..19],
-        &mut records,
-        &mut work,
-    );
-    run(b"half a record: ", &block, &payload, &mut half, &mut work);
-    run(
-        b"work of 1,471: ",
-        &block,
-        &payload,
-        &mut records,
-        &mut short,
-    );
-    run(
+    cut(name, &block, &payload, &mut records, &mut work, lengths);
+}
+
+// One row, and each input too short by a byte.
+fn one_row() {
+    zeros(b"one row: ", HEADER, ENOUGH);
+    zeros(b"block of 39: ", HEADER, Lengths(39, 20, 2, 1472));
+    zeros(b"payload of 19: ", HEADER, Lengths(40, 19, 2, 1472));
+    zeros(b"half a record: ", HEADER, Lengths(40, 20, 1, 1472));
+    zeros(b"work of 1,471: ", HEADER, Lengths(40, 20, 2, 1471));
+}
+
+// Several too short at once.
+fn short_together() {
+    zeros(
         b"payload, records and work: ",
-        &block,
-        &payload[..19],
-        &mut half,
-        &mut short,
+        HEADER,
+        Lengths(40, 19, 1, 1471),
     );
-    run(
-        b"records and work: ",
-        &block,
-        &payload,
-        &mut half,
-        &mut short,
-    );
-    block[3] = 35;
-    run(b"length of 35: ", &block, &payload, &mut records, &mut work);
-    block[3] = 36;
-    block[4] = 2;
-    run(b"version 2: ", &block, &payload, &mut records, &mut work);
-    block[4] = 1;
-    block[5] = 44;
-    run(b"u of 44: ", &block, &payload, &mut records, &mut work);
-    run(
+    zeros(b"records and work: ", HEADER, Lengths(40, 20, 1, 1471));
+}
+
+// Other headers, the last with all else too short.
+fn other_headers() {
+    zeros(b"length of 35: ", [0, 0, 0, 35, 1, 45, 0, 1], ENOUGH);
+    zeros(b"version 2: ", [0, 0, 0, 36, 2, 45, 0, 1], ENOUGH);
+    zeros(b"u of 44: ", [0, 0, 0, 36, 1, 44, 0, 1], ENOUGH);
+    zeros(
         b"everything: ",
-        &block,
-        &payload[..19],
-        &mut half,
-        &mut short,
+        [0, 0, 0, 36, 1, 44, 0, 1],
+        Lengths(40, 19, 1, 1471),
+    );
+}
+
+// One row less than the fewest, one more than the most, and the most.
+fn many_rows() {
+    zeros(
+        b"0 rows: ",
+        [0, 0, 0, 4, 1, 45, 0, 0],
+        Lengths(8, 0, 2050, 1472),
+    );
+    zeros(
+        b"1,025 rows: ",
+        [0, 0, 128, 36, 1, 45, 4, 1],
+        Lengths(32808, 20500, 2050, 1472),
+    );
+    zeros(
+        b"1,024 rows: ",
+        [0, 0, 128, 4, 1, 45, 4, 0],
+        Lengths(32776, 20480, 2048, 1472),
     );
 }
 
@@ -96,36 +137,18 @@ fn damage(block: &mut [u8])
     }
 }
 
-// One row less than the fewest and one more than the most.
-fn outside() {
-    let none = [0u8, 0, 0, 4, 1, 45, 0, 0];
-    let mut block = [0u8; 32808];
-    block[2] = 128;
-    block[3] = 36;
-    block[4] = 1;
-    block[5] = 45;
-    block[6] = 4;
-    block[7] = 1;
-    let payload = [0u8; 20500];
-    let mut records = [0u8; 2050];
-    let mut work = [0u8; 1472];
-    run(b"0 rows: ", &none, &payload[..0], &mut records, &mut work);
-    run(b"1,025 rows: ", &block, &payload, &mut records, &mut work);
-}
-
-// The most rows, as they are written and with a symbol changed in 960 of them.
-fn full() {
+// The most rows, with a symbol changed in 960 of them.
+fn damaged() {
     let mut block = [0u8; 32776];
     block[2] = 128;
     block[3] = 4;
     block[4] = 1;
     block[5] = 45;
     block[6] = 4;
+    damage(&mut block);
     let payload = [0u8; 20480];
     let mut records = [0u8; 2048];
     let mut work = [0u8; 1472];
-    run(b"1,024 rows: ", &block, &payload, &mut records, &mut work);
-    damage(&mut block);
     run(
         b"1,024 rows, 960 changed: ",
         &block,
@@ -173,7 +196,9 @@ fn two_rows() {
 
 fn main() {
     one_row();
-    outside();
-    full();
+    short_together();
+    other_headers();
+    many_rows();
+    damaged();
     two_rows();
 }

@@ -1,6 +1,8 @@
 -- `symbols::product_in` meets its contract. Assumes nothing.
+use Rattle.symbols.specs.Rule.{size}
+use Rattle.symbols.specs.Tables.{productNumber}
 use Rattle.symbols.proofs.Bytes.{known-other}
-use Rattle.symbols.proofs.TableRules.{product-of-list, computing}
+use Rattle.symbols.proofs.TableRules.{product-of-list}
 use borrow.Author.Needs.{needs}
 use Rattle.symbols.proofs.product_in.Statement.{statement}
 use Rattle.symbols.proofs.product_in.Tie as tie
@@ -36,14 +38,14 @@ shared-slice-read-result-2 : tie.Need-shared-slice-read-result-2
 shared-slice-read-result-2 c = search needs
 
 returns : tie.Need-returns
-unfolding computing
+unfolding size productNumber
 returns c =
     let s = c .before .before in
     let e = c .before .if1 .taken in
     rw e (product-of-list 4 (s .args .a) (s .args .b) _ (rw e at (s .pre .1)))
 
 returns-2 : tie.Need-returns-2
-unfolding computing
+unfolding size productNumber
 returns-2 c =
     let s = c .before .before in
     let e = known-other _ (s .pre .0) (c .before .if1 .left) in
