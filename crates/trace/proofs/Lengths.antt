@@ -1,22 +1,22 @@
 -- How long the printed lines are: no trace is longer than `longestTrace`, and that is the size in the code.
 -- Assumes nothing.
-use mathlib.Core.Path.{_≡_, refl, subst, sym, _∙_}
+use mathlib.Core.Path.{_≡_, refl, subst, sym}
 use mathlib.Core.Logic.{⊎-elim}
 use mathlib.Core.Bool.{Bool, true, false}
 use mathlib.Core.List.{List, [], _∷_}
-use Prim.Native.Nat.{ℕ, suc, _+_, _*_, _-_, _/_, _≤_}
+use Prim.Native.Nat.{ℕ, suc, _*_, _-_, _/_, _≤_}
 use native.Mathlib.Nat.{mul-le-mul-right, le-max-left, le-max-right}
 use native.Mathlib.Omega.{arith}
 use borrow.Author.Tests.{leb-true}
 use lib.Dec.{leb}
-use lib.ListN.{length, getD, length-append, length-map}
+use lib.ListN.{length, getD, length-append}
 use Rattle.lines.specs.Text.{lastDigits, digits}
 use Rattle.lines.proofs.Digits.{digits-widen}
 use Rattle.refusals.specs.declared.Refusal.{Refusal}
 use Rattle.refusals.specs.declared.Refusal.the-variants.{WrongLength, BeyondReach}
 use Rattle.refusals.proofs.Checks.{Refuses, Passes, refused, passed, decideChecks}
 use Rattle.symbols.specs.Rule.{Known, symbols, number}
-use Rattle.curve.specs.Codes.{pointCount, isCode, dimension, nongaps, reach}
+use Rattle.curve.specs.Codes.{pointCount, isCode, reach}
 use Rattle.curve.proofs.CodeLaws.{code-below, dimension-le}
 use Rattle.published.specs.Start.{width, startWeight, stepCount}
 use Rattle.published.specs.Steps.{messageOf}
