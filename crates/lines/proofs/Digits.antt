@@ -1,15 +1,15 @@
--- Laws of decimal digits: by their last digit, and how many there are.
+-- Laws of decimal digits: by their last digit, and how many there are, also of numbers with spaces before them.
 -- Assumes nothing.
 use mathlib.Core.Path.{_≡_, ap, sym, _∙_}
 use mathlib.Core.Bool.{Bool, true, false}
 use mathlib.Core.List.{List, [], _∷_, _++_}
 use Prim.Native.Nat.{ℕ, zero, suc, _+_, _*_, _/_, _%_, _^_, _≤_, _<_}
-use native.Mathlib.Nat.{pow-suc}
+use native.Mathlib.Nat.{pow-suc, suc-mul}
 use native.Mathlib.Decide.{decLt}
 use native.Mathlib.Omega.{arith}
-use lib.ListN.{length, length-append}
+use lib.ListN.{length, getD, length-append}
 use borrow.Author.Tests.{lt-ltb, le-ltb}
-use Rattle.lines.specs.Text.{lastDigits, digits}
+use Rattle.lines.specs.Text.{lastDigits, digits, spaced}
 
 -- what the definition takes by its test
 byTest : ℕ → ℕ → Bool → List ℕ
@@ -66,3 +66,43 @@ length-digits (suc k) n h =
       | no large ↦
           omega (arith, length-digits k (n / 10) (tenth n (10 ^ suc k) (rw pow-suc at h)), length-digits-large n (omega arith))
     ]
+
+-- there is at least one digit
+pub some-digit : (n : ℕ) → 1 ≤ length (digits n)
+some-digit n =
+    elim (decLt n 10) [
+      | yes small ↦ omega (arith, ap length (digits-small n small))
+      | no large ↦ omega (arith, length-digits-large n (omega arith))
+    ]
+
+-- a larger number has no fewer digits
+no-fewer : (most n m : ℕ) → n < most → n ≤ m → length (digits n) ≤ length (digits m)
+no-fewer zero n m h le = absurd (omega arith)
+no-fewer (suc most) n m h le =
+    elim (decLt n 10) [
+      | yes small ↦ omega (arith, ap length (digits-small n small), some-digit m)
+      | no large ↦
+          omega (
+            arith,
+            no-fewer most (n / 10) (m / 10) (omega arith) (omega arith),
+            length-digits-large n (omega arith),
+            length-digits-large m (omega arith),
+          )
+    ]
+
+pub digits-widen : (n m : ℕ) → n ≤ m → length (digits n) ≤ length (digits m)
+digits-widen n m le = no-fewer (suc n) n m (omega arith) le
+
+-- numbers that are at most `most` take its digits and a space each
+pub length-spaced : (most : ℕ) (numbers : List ℕ) → ((i : ℕ) → getD numbers i 0 ≤ most)
+    → length (spaced numbers) ≤ length numbers * suc (length (digits most))
+unfolding spaced
+length-spaced most [] h = omega arith
+length-spaced most (n ∷ numbers) h =
+    simp length-append
+    (omega (
+      arith,
+      suc-mul (length numbers) (suc (length (digits most))),
+      digits-widen n most (h 0),
+      length-spaced most numbers (λ i. h (suc i)),
+    ))

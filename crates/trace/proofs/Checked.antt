@@ -1,7 +1,7 @@
 -- The checks of a row: what they say of one that passes them, and that the stop service and decoding, with room enough, make
--- the same ones.
+-- the same ones. And the last line from what decoding leaves.
 -- Assumes nothing.
-use mathlib.Core.Path.{_≡_, ap, sym, _∙_}
+use mathlib.Core.Path.{_≡_, refl, ap, sym, _∙_}
 use mathlib.Core.Logic.{⊎-elim}
 use mathlib.Core.Bool.{false, not, _||_}
 use mathlib.Core.List.{List, _∷_, _++_}
@@ -9,29 +9,42 @@ use Prim.Native.Nat.{ℕ, _≤_}
 use native.Mathlib.Omega.{arith}
 use borrow.Author.Tests.{eqb-true, eq-eqb, le-ltb, not-false}
 use lib.Dec.{eqb, ltb}
-use lib.ListN.{length, take, drop}
+use lib.ListN.{length, getD, take, drop, length-map}
 use lib.Seq.{take-at}
 use Rattle.refusals.specs.declared.Refusal.{Refusal}
 use Rattle.refusals.specs.Numbers.{Check}
 use Rattle.refusals.proofs.Checks.{Refuses, here, later, Passes, done, clear, refused, passed, decideChecks}
-use Rattle.symbols.specs.Rule.{isKnown}
+use Rattle.symbols.specs.Rule.{Known, isKnown, symbols, number}
 use Rattle.symbols.proofs.Bytes.{test-known, known-test}
-use Rattle.curve.specs.Codes.{pointCount, isCode, dimension}
+use Rattle.curve.specs.Codes.{pointCount, isCode, dimension, nongaps}
 use Rattle.curve.proofs.CodeLaws.{dimension-le}
 use Rattle.published.specs.Start.{stepCount}
 use Rattle.published.specs.Picture.{areaSize, cellNumber, picture}
+use Rattle.published.specs.Steps.{messageOf}
 use Rattle.steps.specs.declared.Stopped.{Stopped}
 use Rattle.steps.specs.declared.Stopped.the-variants.{Done, Refused}
 use Rattle.workarea.specs.Area.{Starts, cellsOf, numbers, shown}
-use Rattle.steps.specs.Stop.{stateAfter, stopChecks, stopAnswer, stopWork, pictureAfter}
+use Rattle.steps.specs.Stop.{stateAfter, votesAfter, stopChecks, stopAnswer, stopWork, pictureAfter}
 use Rattle.workarea.proofs.Sizes.{sizes}
 use Rattle.decoder.specs.declared.Decoded.{Decoded}
 use Rattle.decoder.specs.declared.Decoded.the-variants.{Accepted, Refused as Rejected}
 use Rattle.decoder.specs.Decoding.{decodeChecks, decodeAnswer, decodeMessage, decoded, ifAccepted}
 use Rattle.voting.specs.Voting.{voted}
-use Rattle.trace.specs.Trace.{refuseLine, acceptLine, lastLine, rowLines, traceChecks, answer}
-use Rattle.trace.specs.Walk.{Full}
-use Rattle.trace.proofs.Small.{points-few, length-voted}
+use Rattle.report.specs.Report.{refuseLine}
+use Rattle.trace.specs.Trace.{lastLine, rowLines, traceChecks, answer}
+use Rattle.trace.specs.Rows.{Full}
+
+-- there are at most 64 points
+pub points-few : (q : ℕ) → Known q → pointCount q ≤ 64
+unfolding pointCount
+points-few q known = sizes q known .cube-few
+
+-- a voted message has k numbers
+pub length-voted : (q u : ℕ) (row : List ℕ) → length (voted q u row) ≡ dimension q u
+unfolding voted votesAfter messageOf dimension
+length-voted q u row =
+    length-map (messageOf (symbols q) q u (stateAfter q u row (stepCount q) .votes)) (number q)
+    ∙ length-map (nongaps q u) (λ s. getD (stateAfter q u row (stepCount q) .votes) s (symbols q .𝟘))
 
 checked : {c : Check} {cs : List Check} → Passes (c ∷ cs) → (c .holds ≡ false) × Passes cs
 checked (clear h p) = (h, p)
@@ -146,19 +159,22 @@ unfolding decodeAnswer
 decode-answer q u row work message corrected full room one two =
     passed Rejected (decoded q u row) (decode-passes q u row work message corrected full room one two)
 
--- the last line by what decoding answers and leaves
-pub last-refused : (q u : ℕ) (row : List ℕ) {why : Refusal} → decoded q u row ≡ Rejected why
-    → lastLine (decoded q u row) (voted q u row) ≡ refuseLine why
-unfolding lastLine
-last-refused q u row e = rw e
-
-pub last-accepted : (q u : ℕ) (row work message corrected after : List ℕ) {count k : ℕ} → decodeAnswer q u row work message corrected ≡ decoded q u row
-    → after ≡ decodeMessage q u row work message corrected → decoded q u row ≡ Accepted count → k ≡ dimension q u
-    → lastLine (decoded q u row) (voted q u row) ≡ acceptLine count (take k after)
-unfolding lastLine decodeMessage ifAccepted
-last-accepted q u row work message corrected after {count} {k} answered left e size =
+-- the message that was voted for stands in the first places of what an accepted decoding leaves
+accepted-front : (q u : ℕ) (row work message corrected after : List ℕ) {count k : ℕ} → decodeAnswer q u row work message corrected ≡ Accepted count
+    → after ≡ decodeMessage q u row work message corrected → k ≡ dimension q u → take k after ≡ voted q u row
+unfolding decodeMessage ifAccepted
+accepted-front q u row work message corrected after {count} {k} answered left size =
     let whole : after ≡ voted q u row ++ drop (dimension q u) message =
-    left ∙ ap (λ (d : Decoded). ifAccepted d (voted q u row ++ drop (dimension q u) message) message) (answered ∙ e) in
-    let front : take k after ≡ voted q u row =
-    ap (take k) whole ∙ take-at (voted q u row) (drop (dimension q u) message) k (length-voted q u row ∙ sym size) in
-    rw (e, front)
+    left ∙ ap (λ (d : Decoded). ifAccepted d (voted q u row ++ drop (dimension q u) message) message) answered in
+    ap (take k) whole ∙ take-at (voted q u row) (drop (dimension q u) message) k (length-voted q u row ∙ sym size)
+
+-- so the last line is made from what decoding answers and leaves
+pub last-line : (q u : ℕ) (row work message corrected after : List ℕ) {r : Decoded} {k : ℕ} → r ≡ decodeAnswer q u row work message corrected
+    → decodeAnswer q u row work message corrected ≡ decoded q u row → after ≡ decodeMessage q u row work message corrected → k ≡ dimension q u
+    → lastLine r (take k after) ≡ lastLine (decoded q u row) (voted q u row)
+last-line q u row work message corrected after {r} {k} answered is left size =
+    by-answer r (sym answered) ∙ ap (λ (d : Decoded). lastLine d (voted q u row)) (answered ∙ is)
+  where
+    by-answer : (d : Decoded) → decodeAnswer q u row work message corrected ≡ d → lastLine d (take k after) ≡ lastLine d (voted q u row)
+    by-answer (Accepted count) e = ap (lastLine (Accepted count)) (accepted-front q u row work message corrected after e left size)
+    by-answer (Rejected why) e = unfold lastLine in refl

@@ -1,9 +1,4 @@
-mod Numbers
-mod Written
-pub mod Meaning
-mod Small
 mod Checked
-mod Lengths
-mod LeadingRows
-mod Walked
+pub mod Lengths
+mod Whole
 pub mod Example

@@ -1,5 +1,4 @@
-pub mod Request
-pub mod Reader
 pub mod Trace
-pub mod Walk
+pub mod Rows
+pub mod Size
 pub mod Example

@@ -1,57 +1,23 @@
 -- What rowtrace prints. Document 01: "First q and u. Each step line: s, the vote (- if none), leading degrees of f by i, then of
 -- g, after the step. Last: the count and the message; for refusal 8, all lines and then "refuse 8"."
 -- Assumes nothing.
-use mathlib.Core.Bool.{Bool, true, false, not}
+use mathlib.Core.Bool.{not}
 use mathlib.Core.List.{List, [], _∷_, _++_}
-use Prim.Native.Nat.{ℕ, zero, suc, _-_}
+use Prim.Native.Nat.{ℕ}
 use lib.Dec.{eqb}
-use lib.ListN.{length, getD}
-use Rattle.lists.specs.Tables.{tab}
-use Rattle.lines.specs.Text.{ascii, digits, spaced}
-use Rattle.refusals.specs.declared.Refusal.{Refusal}
+use lib.ListN.{length}
 use Rattle.refusals.specs.declared.Refusal.the-variants.{UnknownQ, NoCode, WrongLength, NoSymbol}
-use Rattle.refusals.specs.Numbers.{Check, _if_, firstOf, refusalNumber}
-use Rattle.symbols.specs.Rule.{isKnown, symbols, number, symbol, anyBeyond}
+use Rattle.refusals.specs.Numbers.{Check, _if_, firstOf}
+use Rattle.symbols.specs.Rule.{isKnown, anyBeyond}
 use Rattle.curve.specs.Codes.{pointCount, isCode}
-use Rattle.published.specs.Start.{Polynomials, startWeight, stepCount}
-use Rattle.published.specs.Pairing.{isVoted, degreeF, degreeG}
-use Rattle.published.specs.Steps.{State}
-use Rattle.steps.specs.Stop.{stateAfter}
+use Rattle.published.specs.Start.{stepCount}
 use Rattle.decoder.specs.declared.Decoded.{Decoded}
 use Rattle.decoder.specs.declared.Decoded.the-variants.{Accepted, Refused}
 use Rattle.voting.specs.Voting.{voted}
 use Rattle.decoder.specs.Decoding.{decoded}
-use Rattle.trace.specs.Request.{line, Said, asks, nothing, reading}
-
--- prints "refuse" and its number
-unfoldable pub refuseLine : Refusal → List ℕ
-refuseLine why = ascii "refuse " ++ digits (refusalNumber why) ++ (10 ∷ [])
-
--- "accept 1 : 0 0 0 0"
-unfoldable pub acceptLine : ℕ → List ℕ → List ℕ
-acceptLine count message = ascii "accept " ++ digits count ++ ascii " :" ++ spaced message ++ (10 ∷ [])
-
--- "the vote (- if none)", with its space
-unfoldable pub voteText : Bool → ℕ → List ℕ
-voteText true vote = spaced (vote ∷ [])
-voteText false vote = ascii " -"
-
--- the vote of step s
-unfoldable pub voteAt : (q : ℕ) → ℕ → State (symbols q) q → ℕ
-voteAt q s state = number q (getD (state .votes) s (symbol q 0))
-
--- "leading degrees of f by i, then of g"
-unfoldable pub degrees : (q : ℕ) → Polynomials (symbols q) q → List ℕ
-degrees q S = tab q (degreeF (symbols q) q S) ++ tab q (degreeG (symbols q) q S)
-
--- the line of step s, "after the step"
-unfoldable pub stepLine : (q : ℕ) → ℕ → ℕ → State (symbols q) q → List ℕ
-stepLine q u s state = digits s ++ voteText (isVoted q u s) (voteAt q s state) ++ spaced (degrees q (state .polys)) ++ (10 ∷ [])
-
--- the lines of the first t steps; step t + 1 is at the start weight less t
-unfoldable pub stepLines : ℕ → ℕ → List ℕ → ℕ → List ℕ
-stepLines q u row zero = []
-stepLines q u row (suc t) = stepLines q u row t ++ stepLine q u (startWeight q - t) (stateAfter q u row (suc t))
+use Rattle.request.specs.Request.{line, Said, asks, nothing, reading}
+use Rattle.report.specs.Report.{refuseLine, acceptLine}
+use Rattle.steplines.specs.StepLines.{stepLines}
 
 -- the last line
 unfoldable pub lastLine : Decoded → List ℕ → List ℕ

@@ -1,16 +1,13 @@
 // All lines of a row, or the line of its refusal.
-use crate::leading::put_step_line;
-use crate::report::put_acceptance;
-use crate::report::put_refusal;
-use crate::request::put_code;
 use curve::dimension;
 use decoder::Decoded;
 use decoder::decode;
+use report::put_acceptance;
+use report::put_refusal;
+use request::put_code;
+use steplines::put_steps;
 use steps::Stopped;
-use steps::step_count;
 use steps::stop;
-use steps::take_step;
-use workarea::start_heights;
 ghost use Prim.Native.Nat.{_+_, _≤_};
 ghost use lib.ListN.{length};
 ghost use Rattle.lines.specs.Text.{Wrote};
@@ -19,46 +16,48 @@ ghost use Rattle.steps.specs.Stop.{stateAfter};
 ghost use Rattle.voting.specs.Voting.{voted};
 ghost use Rattle.decoder.specs.Decoding.{decoded};
 ghost use Rattle.trace.specs.Trace.{lastLine, rowLines, answer as Trace·answer};
-ghost use Rattle.trace.specs.Walk.{Full};
+ghost use Rattle.trace.specs.Rows.{Full};
+ghost use Rattle.trace.specs.Size.{lastSize, traceSize, longestTrace};
 
-// The last line: what decoding the row answers.
-fn put_last(out: &mut [u8], at: usize, q: usize, u: usize, row: &[u8], work: &mut [u8]) -> usize
-    requires { ⌜ Full q u (now row) ⌝ }
-    requires { ⌜ (1472 ≤ length (now work)) × (at + 269 ≤ length (now out)) ⌝ }
-    ensures { λ r. ⌜ Wrote (now (out .entry)) at (lastLine (decoded q u (now (row .entry))) (voted q u (now (row .entry)))) (now (out .exit)) r ⌝ }
+// The last line, from what decoding answered and the message.
+fn put_decoded(out: &mut [u8], at: usize, answered: Decoded, message: &[u8]) -> usize
+    requires { ⌜ at + length (lastLine answered (now message)) ≤ length (now out) ⌝ }
+    ensures { λ r. ⌜ Wrote (now (out .entry)) at (lastLine answered (now (message .entry))) (now (out .exit)) r ⌝ }
 {
-    let mut message = [0u8; 64];
-    let mut corrected = [0u8; 64];
-    match decode(q, u, row, work, &mut message, &mut corrected) {
-        Decoded::Accepted(count) => {
-            let k = dimension(q, u);
-            put_acceptance(out, at, count, &message[..k])
-        }
+    match answered {
+        Decoded::Accepted(count) => put_acceptance(out, at, count, message),
         Decoded::Refused(why) => put_refusal(out, at, why),
     }
 }
 
-// All lines of a full row whose start stands in the work area: one step and its line after the other.
+// The last line: what decoding the row answers.
+fn put_last(out: &mut [u8], at: usize, q: usize, u: usize, row: &[u8], work: &mut [u8]) -> usize
+    requires { ⌜ Full q u (now row) ⌝ }
+    requires { ⌜ (1472 ≤ length (now work)) × (at + lastSize q ≤ length (now out)) ⌝ }
+    ensures { λ r. ⌜ Wrote (now (out .entry)) at (lastLine (decoded q u (now (row .entry))) (voted q u (now (row .entry)))) (now (out .exit)) r ⌝ }
+{
+    let mut message = [0u8; 64];
+    let mut corrected = [0u8; 64];
+    let answered = decode(q, u, row, work, &mut message, &mut corrected);
+    let k = dimension(q, u);
+    put_decoded(out, at, answered, &message[..k])
+}
+
+// All lines of a full row whose start stands in the work area.
 fn put_lines(out: &mut [u8], q: usize, u: usize, row: &[u8], work: &mut [u8]) -> usize
     requires { ⌜ Full q u (now row) ⌝ }
-    requires { ⌜ (1472 ≤ length (now work)) × (4096 ≤ length (now out)) ⌝ }
+    requires { ⌜ (1472 ≤ length (now work)) × (traceSize q ≤ length (now out)) ⌝ }
     requires { ⌜ Starts q (now work) (cellsOf q (stateAfter q u (now row) 0 .polys)) ⌝ }
     ensures { λ r. ⌜ Wrote (now (out .entry)) 0 (rowLines q u (now (row .entry))) (now (out .exit)) r ⌝ }
 {
-    let count = step_count(q);
-    let mut next = put_code(out, 0, q, u);
-    let table = symbols::table_of(q);
-    let mut heights = start_heights(q);
-    for t in 0..count {
-        let vote = take_step(&table, q, u, t, work, &mut heights);
-        next = put_step_line(out, next, q, u, count - 1 - t, vote, work);
-    }
-    put_last(out, next, q, u, row, work)
+    let first = put_code(out, 0, q, u);
+    let steps = put_steps(out, first, q, u, work);
+    put_last(out, steps, q, u, row, work)
 }
 
 // The stop service, asked for no step, checks the row and leaves the start.
 pub fn answer(out: &mut [u8], q: usize, u: usize, row: &[u8]) -> usize
-    requires { ⌜ 4096 ≤ length (now out) ⌝ }
+    requires { ⌜ longestTrace ≤ length (now out) ⌝ }
     ensures { λ r. ⌜ Wrote (now (out .entry)) 0 (Trace·answer q u (now (row .entry))) (now (out .exit)) r ⌝ }
 {
     let mut work = [0u8; 1472];

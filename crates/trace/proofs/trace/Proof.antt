@@ -8,10 +8,11 @@ use lib.Seq.{length-take-le}
 use Rattle.lines.specs.Text.{Wrote}
 use Rattle.lines.proofs.Writing.{wrote-within}
 use Rattle.refusals.specs.declared.Refusal.the-variants.{WrongLength}
-use Rattle.trace.specs.Reader.{countIn, saying}
-use Rattle.trace.specs.Trace.{answer, answerTo, refuseLine, traceText}
-use Rattle.trace.proofs.Meaning.{reading-means}
-use Rattle.trace.proofs.Lengths.{length-refuse, length-trace}
+use Rattle.request.specs.Reader.{countIn, saying}
+use Rattle.trace.specs.Trace.{answer, answerTo, traceText}
+use Rattle.request.proofs.Meaning.{reading-means}
+use Rattle.report.specs.Report.{refuseLine}
+use Rattle.trace.proofs.Lengths.{length-refused, length-trace, longest-is}
 use borrow.Author.Needs.{needs}
 use Rattle.trace.proofs.trace.Statement.{statement}
 use Rattle.trace.proofs.trace.Tie as tie
@@ -58,13 +59,13 @@ slice-aggregate-answer c =
     sym (length-take-le (found .q .given .0 .1 .1 .0) (found .before .before .before .read-request .last .1 .0) (row-room found))
 
 answer-requires : tie.Need-answer-requires
-answer-requires c κs = search needs
+answer-requires c κs = omega (arith, longest-is)
 
 enum-told : tie.Need-enum-told
 enum-told c = search needs
 
 put-refusal-requires : tie.Need-put-refusal-requires
-put-refusal-requires c κs = omega (arith, length-refuse WrongLength)
+put-refusal-requires c κs = omega (arith, length-refused WrongLength, longest-is)
 
 returns : tie.Need-returns
 returns c =
@@ -72,7 +73,7 @@ returns c =
     let a = found .before .before .before .before .before .before .args in
     let text = a .text .now in
     let written : Wrote (a .out .now) 0 (traceText text) (c .answer .last .0) (c .answer .result) = rw (asked found) (c .answer .ensures) in
-    let within = wrote-within (omega (arith, length-trace text)) written in
+    let within = wrote-within (omega (arith, length-trace text, longest-is)) written in
     (written, ((within, sym (length-take-le (c .answer .result) (c .answer .last .0) within)), reading-means text))
 
 returns-2 : tie.Need-returns-2
@@ -81,7 +82,7 @@ returns-2 c =
     let a = told .before .before .before .before .before .before .args in
     let text = a .text .now in
     let written : Wrote (a .out .now) 0 (traceText text) (c .put-refusal .last .0) (c .put-refusal .result) = rw (not-asked told) (c .put-refusal .ensures) in
-    let within = wrote-within (omega (arith, length-trace text)) written in
+    let within = wrote-within (omega (arith, length-trace text, longest-is)) written in
     (written, ((within, sym (length-take-le (c .put-refusal .result) (c .put-refusal .last .0) within)), reading-means text))
 
 pub trace-spec : {M : Type 1} → statement M

@@ -4,7 +4,7 @@ use native.Mathlib.Omega.{arith}
 use lib.Dec.{lit≤}
 use lib.ListN.{replicate}
 use Rattle.trace.proofs.Checked.{Begun, stop-refused, stop-done}
-use Rattle.trace.proofs.Lengths.{length-refuse}
+use Rattle.trace.proofs.Lengths.{longest, length-refused}
 use borrow.Author.Needs.{needs}
 use Rattle.trace.proofs.rows.answer.Statement.{statement}
 use Rattle.trace.proofs.rows.answer.Tie as tie
@@ -40,8 +40,10 @@ put-lines-requires c κs =
     let told = c .before .before in
     let called = told .before .before .before .before in
     let start = called .before .before .before .before .before in
-    let done = begun told in
-    (done .full, ((omega (arith, called .stop .kept .1 .1 .1 .1 .0), start .pre), done .shows))
+    let done = begun told in (
+      done .full,
+      ((omega (arith, called .stop .kept .1 .1 .1 .1 .0), omega (arith, start .pre, longest (start .args .q) (done .full .known))), done .shows),
+    )
 
 enum-known-why : tie.Need-enum-known-why
 enum-known-why c = search needs
@@ -49,7 +51,7 @@ enum-known-why c = search needs
 put-refusal-requires : tie.Need-put-refusal-requires
 put-refusal-requires c κs =
     let start = c .before .before .before .before .before .before .before .before .before .before .before in
-    omega (arith, start .pre, length-refuse (c .before .before .why .given .0 .0))
+    omega (arith, start .pre, length-refused (c .before .before .why .given .0 .0))
 
 same-length : tie.Need-same-length
 same-length c = search needs

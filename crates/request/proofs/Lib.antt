@@ -1,0 +1,3 @@
+mod Numbers
+pub mod Written
+pub mod Meaning

@@ -1,0 +1,3 @@
+mod LeadingRows
+pub mod Lengths
+mod Walked
