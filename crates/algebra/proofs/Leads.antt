@@ -8,8 +8,8 @@ use native.Mathlib.Omega.{arith}
 use Rattle.algebra.specs.Symbols.{Symbols, Laws}
 use Rattle.algebra.specs.Weights.{weight, nongap}
 use Rattle.algebra.specs.Functions.{Fn, timesX, timesYs, timesMonomial}
-use Rattle.algebra.proofs.WeightLaws.{weight-x, weight-ys, weight-strict, weight-inj}
-use Rattle.algebra.proofs.Partners.{Paired, pair-weight, pair-place, pair-row, pair-balance}
+use Rattle.algebra.proofs.WeightLaws.{weight-x, weight-ys, weight-inj}
+use Rattle.algebra.proofs.Partners.{pair-balance}
 use Rattle.algebra.proofs.Bounds.{Agree, Cut, plus, plus-at, plus-left, cut-le, cut-at, cut-cong, cut-plus, cut-x, x-at, cut-ys, lead-ys, cut-monomial, lead-monomial, lead-at}
 
 module _ (𝓢 : Symbols) (q : ℕ) where
@@ -45,35 +45,11 @@ module _ (𝓢 : Symbols) (q : ℕ) where
     up = cut-cong 𝓢 q eU (g .up);
   }
 
-  -- the leading powers of x are the degrees of the leading rows
-  pub leadUpper-above : {s i A : ℕ} {U L : Fn 𝓢 q} → i < q → LeadUpper s i A U L → (k : ℕ) → A < k → U i k ≡ 𝟘
-  leadUpper-above {i = i} hi f k h = f .up .off i k hi (omega (arith, weight-strict q i (omega arith) h))
-
-  -- of a lower lead too
-  pub leadLower-above : {s j D : ℕ} {U L : Fn 𝓢 q} → j < q → LeadLower s j D U L → (k : ℕ) → D < k → L j k ≡ 𝟘
-  leadLower-above {j = j} hj g k h = g .low .off j k hj (omega (arith, weight-strict q j (omega arith) h))
-
   -- the weight of z goes down by one: the lead stays if L has no monomial of the weight of z x^A y^i
   pub lead-same : {s i A : ℕ} {U L : Fn 𝓢 q} → LeadUpper (suc s) i A U L
       → ((j k : ℕ) → j < q → weight q j k ≡ weight q i A + s → L j k ≡ 𝟘)
       → LeadUpper s i A U L
   lead-same f h = record { top = f .top; up = f .up; low = cut-at 𝓢 q (cut-le 𝓢 q (omega arith) (f .low)) h }
-
-  -- that is so if the place is no monomial (k is negative), or if the coefficient there is zero
-  pub lead-negative : {s i j A : ℕ} {U L : Fn 𝓢 q} (P : Paired q s i j) → A + i + P .t < j → LeadUpper (suc s) i A U L
-      → LeadUpper s i A U L
-  lead-negative {A = A} P h f =
-      lead-same f (λ j′ k h′ e.
-      let row = pair-row q P A j′ k h′ e in
-      absurd (omega (arith, pair-place q P A k (sym (rw row at e)))))
-
-  -- and if the coefficient there is zero
-  pub lead-zero : {s i j A : ℕ} (k : ℕ) {U L : Fn 𝓢 q} (P : Paired q s i j) → k + j ≡ A + i + P .t → L j k ≡ 𝟘
-      → LeadUpper (suc s) i A U L → LeadUpper s i A U L
-  lead-zero {j = j} {A} k {L = L} P h z f =
-      lead-same f (λ j′ k′ h′ e.
-      let same = weight-inj q j′ k′ j k h′ (P .small′) (e ∙ pair-weight q P A k h) in
-      ap₂ L (same .0) (same .1) ∙ z)
 
   -- a lower lead stays
   pub leadLower-down : {s j D : ℕ} {U L : Fn 𝓢 q} → LeadLower (suc s) j D U L → LeadLower s j D U L

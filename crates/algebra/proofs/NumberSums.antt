@@ -7,11 +7,6 @@ use native.Mathlib.Omega.{arith}
 use native.Mathlib.Decide.{ℕ-discrete}
 unfoldable pub use Rattle.algebra.specs.Totals.{total}
 
--- the last term apart
-pub total-suc : (n : ℕ) (f : ℕ → ℕ) → total (suc n) f ≡ total n f + f n
-unfolding total
-total-suc n f = refl
-
 -- equal terms below the bound
 pub total-cong : (n : ℕ) {f g : ℕ → ℕ} → ((k : ℕ) → k < n → f k ≡ g k) → total n f ≡ total n g
 unfolding total

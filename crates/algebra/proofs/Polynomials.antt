@@ -6,7 +6,7 @@ use native.Mathlib.Decide.{decLe}
 use borrow.Author.Tests.{lt-ltb, le-ltb}
 use Rattle.algebra.specs.Symbols.{Symbols, Laws, power, sum}
 use Rattle.algebra.specs.Functions.{shift, valueIn}
-use Rattle.algebra.proofs.Ring.{ring, sorted*, zero-add, mul-zero, zero-mul, mul-one, add-mul, mul-assoc}
+use Rattle.algebra.proofs.Ring.{ring, sorted*, zero-add, mul-zero, zero-mul, mul-one, add-mul}
 use Rattle.algebra.proofs.Powers.{power-zero, power-suc, power-add}
 use Rattle.algebra.proofs.Sums.{sum-zero, sum-suc, sum-cong, sum-none, sum-add, sum-sub, mul-sum, sum-split, sum-head, sum-widen}
 
@@ -82,11 +82,6 @@ module _ {𝓢 : Symbols} {q : ℕ} (𝓛 : Laws 𝓢 q) where
   unfolding valueIn
   valueIn-sub W a b x =
       sum-cong 𝓢 W (λ i hi. simp (ring, 𝓛)) ∙ sum-sub 𝓛 W (λ i. a i ⊗ power 𝓢 x i) (λ i. b i ⊗ power 𝓢 x i)
-
-  -- values of multiples
-  pub valueIn-scale : (W : ℕ) (c : K) (a : ℕ → K) (x : K) → valueIn 𝓢 q W (λ i. c ⊗ a i) x ≡ c ⊗ valueIn 𝓢 q W a x
-  unfolding valueIn
-  valueIn-scale W c a x = simp (mul-assoc 𝓛, mul-sum 𝓛 W c (λ i. a i ⊗ power 𝓢 x i))
 
   -- a wider sum adds nothing where the further coefficients are zero
   pub valueIn-widen : (U W : ℕ) (a : ℕ → K) (x : K) → U ≤ W → ((i : ℕ) → U ≤ i → a i ≡ 𝟘)

@@ -4,8 +4,7 @@ use mathlib.Core.Path.{_≡_, sym, ap, _∙_, _≡⟨_⟩_, _∎}
 use mathlib.Core.Logic.{_≢_}
 use mathlib.Core.Bool.{true, false}
 use Prim.Native.Nat.{ℕ}
-use native.Mathlib.Decide.{ℕ-discrete}
-use borrow.Author.Tests.{eqb-true, eqb-false, eq-eqb, ne-eqb}
+use borrow.Author.Tests.{eqb-true, eqb-false, eq-eqb}
 use Rattle.algebra.specs.Symbols.{Symbols, Laws, same}
 
 module _ {𝓢 : Symbols} {q : ℕ} (𝓛 : Laws 𝓢 q) where
@@ -205,13 +204,6 @@ module _ {𝓢 : Symbols} {q : ℕ} (𝓛 : Laws 𝓢 q) where
   pub zero-of-number : (a : K) → number a ≡ 0 → a ≡ 𝟘
   zero-of-number a e = number-cancel a 𝟘 (e ∙ sym (𝓛 .number-zero))
 
-  -- whether two symbols are equal
-  pub decide : (a b : K) → Dec (a ≡ b)
-  decide a b = elim (ℕ-discrete (number a) (number b)) [
-    | yes e ↦ yes (number-cancel a b e)
-    | no ne ↦ no (λ e. ne (ap number e))
-  ]
-
   -- what the test `same` says
   pub same-true : (a b : K) → same 𝓢 a b ≡ true → a ≡ b
   unfolding same
@@ -226,8 +218,3 @@ module _ {𝓢 : Symbols} {q : ℕ} (𝓛 : Laws 𝓢 q) where
   pub equal-same : (a b : K) → a ≡ b → same 𝓢 a b ≡ true
   unfolding same
   equal-same a b e = eq-eqb (number a) (number b) (ap number e)
-
-  -- and false of different ones
-  pub unequal-same : (a b : K) → a ≢ b → same 𝓢 a b ≡ false
-  unfolding same
-  unequal-same a b h = ne-eqb (number a) (number b) (λ e. h (number-cancel a b e))

@@ -85,12 +85,6 @@ module _ {𝓢 : Symbols} {q : ℕ} (𝓛 : Laws 𝓢 q) where
   -- beside `ring`: an identity of sums over the same bounds
   pub ruleset sums = (sum-of-zeros, sum-merge, sum-merge′, minus-sum, mul-sum, sum-mul)
 
-  -- the order of summation
-  pub sum-swap : (m n : ℕ) (f : ℕ → ℕ → K) → sum 𝓢 m (λ i. sum 𝓢 n (λ j. f i j)) ≡ sum 𝓢 n (λ j. sum 𝓢 m (λ i. f i j))
-  unfolding sum
-  sum-swap zero n f = sym (sum-of-zeros n)
-  sum-swap (suc m) n f = simp (sum-suc, sum-swap m n f, sum-add n (λ j. sum 𝓢 m (λ i. f i j)) (λ j. f m j))
-
   -- the first m terms apart
   pub sum-split : (m n : ℕ) (f : ℕ → K) → sum 𝓢 (m + n) f ≡ sum 𝓢 m f ⊕ sum 𝓢 n (λ k. f (m + k))
   unfolding sum

@@ -16,7 +16,7 @@ use Rattle.layout.specs.Layout.{tapeQ, tapeU, messageLength, rowCount, blockRow
 use Rattle.layout.proofs.Packed.{byte-back}
 use Rattle.taperow.specs.Laying.{codeRow}
 use Rattle.block.specs.Writing.{isPayload, blockFor, payloadOf}
-use Rattle.taperow.proofs.Tape.{known-tape, dimension-is}
+use Rattle.taperow.proofs.Tape.{dimension-is}
 use Rattle.taperow.proofs.CodeRow.{message-of}
 use Rattle.block.proofs.CodeRows.{fills}
 use Rattle.block.proofs.Unchanged.{written-count, written-row}
@@ -34,7 +34,7 @@ module _ (payload : List ℕ) (right : isPayload payload ≡ true) (bytes : (i :
 
   -- each has 40 symbols
   message-length : (r : ℕ) → length (message r) ≡ messageLength
-  message-length r = voted-count tapeQ known-tape tapeU (blockRow block r) ∙ dimension-is
+  message-length r = voted-count tapeQ tapeU (blockRow block r) ∙ dimension-is
 
   -- message r is the payload's
   message-back : (r : ℕ) → r < rowCount block → message r ≡ payloadRow payload r

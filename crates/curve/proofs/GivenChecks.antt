@@ -6,15 +6,17 @@ use mathlib.Core.Bool.{true, false, not}
 use mathlib.Core.List.{List}
 use Prim.Native.Nat.{ℕ}
 use lib.ListN.{length}
-use borrow.Author.Tests.{eq-eqb, ne-eqb}
+use lib.Dec.{eqb}
+use borrow.Author.Tests.{eq-eqb, ne-eqb, eqb-true, not-false}
 use Rattle.refusals.specs.declared.Refusal.the-variants.{WrongLength, NoSymbol}
 use Rattle.refusals.proofs.Checks.{Refuses, here, later, Passes, done, clear}
 use Rattle.symbols.specs.Rule.{Known, anyBeyond}
-use Rattle.symbols.proofs.Bytes.{known-test}
+use Rattle.symbols.proofs.Bytes.{known-test, test-known}
 use Rattle.curve.specs.declared.Code.{Code}
 use Rattle.curve.specs.Codes.{isCode}
 use Rattle.curve.specs.Answers.{codeChecks, symbolChecks}
 use Rattle.curve.specs.Given.{Valid, Given}
+use Rattle.curve.proofs.Naming.{passes-known, passes-code}
 
 -- 1 and 2 are not due
 pub code-passes : (q u : ℕ) → Known q → isCode q u ≡ true → Passes (codeChecks q u)
@@ -42,3 +44,14 @@ module _ (q n : ℕ) (given : List ℕ) where
 
 pub given-passes : {q u n : ℕ} {given : List ℕ} → Given q u n given → Passes (symbolChecks q n given)
 given-passes g = symbols-pass _ _ _ (g .whole) (g .all-symbols)
+
+-- what passes both is given under a code
+pub passes-given : (q u n : ℕ) (given : List ℕ) → Passes (codeChecks q u) → Passes (symbolChecks q n given) → Given q u n given
+unfolding symbolChecks
+passes-given q u n given coded (clear h (clear h′ done)) =
+    record {
+      known = test-known q (passes-known q u coded);
+      code = passes-code q u coded;
+      whole = eqb-true (length given) n (not-false (eqb (length given) n) h);
+      all-symbols = h′;
+    }

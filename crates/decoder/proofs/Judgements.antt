@@ -57,11 +57,11 @@ pub record Voted (q u : ℕ) (row votes : List ℕ) (k : ℕ) : Type 0 where
 module _ {q u : ℕ} {row votes : List ℕ} {k : ℕ} (R : Voted q u row votes k) where
   -- the first k places are the votes
   first : take k votes ≡ voted q u row
-  first = voted-first q (R .input .known) u row votes (R .rest) k (R .k-is) (R .votes-are)
+  first = voted-first q u row votes (R .rest) k (R .k-is) (R .votes-are)
 
   -- they are k
   pub votes-count : length (take k votes) ≡ k
-  votes-count = ap length first ∙ voted-count q (R .input .known) u row ∙ sym (R .k-is)
+  votes-count = ap length first ∙ voted-count q u row ∙ sym (R .k-is)
 
   -- so the list is no shorter
   pub votes-fit : k ≤ length votes
@@ -73,7 +73,7 @@ module _ {q u : ℕ} {row votes : List ℕ} {k : ℕ} (R : Voted q u row votes k
     known = R .input .known;
     code = R .input .code;
     whole = votes-count ∙ R .k-is;
-    all-symbols = rw first (voted-symbols q (R .input .known) u row);
+    all-symbols = rw first (voted-symbols q u (R .input .known) row);
   }
 
 -- their row stands in the first n places of another list, and the places that differ are counted

@@ -90,7 +90,7 @@ module _ (q u : ℕ) (row work message corrected : List ℕ) where
         accepted = P .answer-is ∙ answered input room ∙ accepted;
         message-is =
             ap (take (dimension q u)) (P .message-is ∙ message-left input room ∙ ap (λ a. ifAccepted a (voted q u row ++ drop (dimension q u) message) message) accepted)
-            ∙ take-at (voted q u row) (drop (dimension q u) message) (dimension q u) (voted-count q (M .known) u row) ∙ votes;
+            ∙ take-at (voted q u row) (drop (dimension q u) message) (dimension q u) (voted-count q u row) ∙ votes;
         corrected-is =
             ap (take (pointCount q)) (P .corrected-is ∙ corrected-left input room
             ∙ ap (λ a. ifAccepted a (rowNumbers q u (voted q u row) ++ drop (pointCount q) corrected) corrected) accepted)

@@ -1,11 +1,9 @@
 -- Rows as numbers: how long they are, and that they are symbols.
 -- Assumes nothing.
 use mathlib.Core.Path.{_≡_, sym, _∙_}
-use mathlib.Core.Logic.{⊎-elim}
 use mathlib.Core.Bool.{false}
 use mathlib.Core.List.{List, map, _++_}
-use Prim.Native.Nat.{ℕ, _≤_}
-use native.Mathlib.Omega.{arith}
+use Prim.Native.Nat.{ℕ}
 use lib.ListN.{length, take, length-map}
 use lib.Seq.{take-at}
 use Rattle.symbols.specs.Rule.{Known, symbols, number, symbol, anyBeyond}
@@ -15,11 +13,6 @@ use Rattle.curve.specs.Rows.{rowOf}
 use Rattle.curve.proofs.Arranged.{points-arranged}
 use Rattle.curve.proofs.RowLaws.{row-length}
 use Rattle.encoder.specs.Encoding.{rowNumbers}
-
--- no row is longer than 64
-pub count-small : (q : ℕ) → Known q → pointCount q ≤ 64
-unfolding Known pointCount
-count-small q = ⊎-elim (λ (e : q ≡ 2). rw e (omega arith)) (λ (e : q ≡ 4). rw e (omega arith))
 
 module _ (q : ℕ) (known : Known q) (u : ℕ) where
   -- a row has n symbols

@@ -23,10 +23,8 @@ use Rattle.published.specs.Pairing.{degreeF, degreeG, leadF, leadG}
 use Rattle.published.specs.Steps.{substitutedPart, substituted}
 use Rattle.published.proofs.Tests.{decided}
 use Rattle.published.proofs.Widths.{degree-fits}
-use Rattle.published.proofs.Parts.{SameParts, Narrow, LeadsUpper, LeadsLower, ZeroAt}
-use Rattle.published.proofs.Parts.{same-upper, same-lower, same-zero, upper-narrow, lower-narrow}
+use Rattle.published.proofs.Parts.{SameParts, Narrow, LeadsUpper, LeadsLower, ZeroAt, same-upper, same-lower, same-zero, upper-narrow, lower-narrow}
 use Rattle.published.proofs.Reading.{each-polynomial, coefficient-made, made-all}
-use Rattle.published.proofs.Degrees.{degreeG-is}
 use Rattle.published.proofs.InPlace.{InPlace}
 
 module _ (𝓢 : Symbols) (q : ℕ) where
@@ -168,13 +166,6 @@ module _ {𝓢 : Symbols} {q : ℕ} (𝓛 : Laws 𝓢 q) (s : ℕ) (w : 𝓢 .K)
         let none = cut-monomial 𝓛 s t (led .leadG j hj .up) .off j (D j) hj (omega arith) in
         plus-left 𝓛 w (coefficient 𝓢 q S (g q j) lower) (timesMonomial 𝓢 q s (coefficient 𝓢 q S (g q j) upper)) j (D j) none)
         can
-
-    -- the leading coefficient of g_j is kept
-    pub leading-coefficient-kept : (j : ℕ) → j < q → leadG 𝓢 q S′ j ≡ leadG 𝓢 q S j
-    unfolding leadG
-    leading-coefficient-kept j hj =
-        let D= = degreeG-is 𝓛 S′ j hj (substituted-g j hj) (omega (arith, fit-g j hj)) in
-        ap (coefficient 𝓢 q S′ (g q j) lower j) D= ∙ substituted-top j hj
 
     -- what was zero at z = r is zero at r less w times the monomial's value
     pub substituted-zero : (x y r : K) (p : ℕ) → OnCurve 𝓢 q x y → p < 2 * q → ZeroAt 𝓢 q x y r (coefficient 𝓢 q S p)

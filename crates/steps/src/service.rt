@@ -66,13 +66,7 @@ pub fn advance(code: Code, steps: usize, row: &[u8], work: &mut [u8], votes: &mu
 }
 
 // Stopping under a code: refused with 3 to 7, or done.
-fn stop_under(
-    code: Code,
-    steps: usize,
-    row: &[u8],
-    work: &mut [u8],
-    output: &mut [u8],
-) -> Stopped
+fn stop_under(code: Code, steps: usize, row: &[u8], work: &mut [u8], output: &mut [u8]) -> Stopped
     requires { ⌜ Valid code ⌝ }
     ensures { λ r. ⌜ r ≡ stopAnswer (code .q) (code .u) steps (now (row .entry)) (now (work .entry)) (now (output .entry)) ⌝ }
     ensures { λ r. ⌜ now (work .exit) ≡ stopWork (code .q) (code .u) steps (now (row .entry)) (now (work .entry)) (now (output .entry)) ⌝ }

@@ -2,18 +2,20 @@
 use mathlib.Core.Path.{_≡_, refl, sym, subst}
 use mathlib.Core.Logic.{_⊎_, inl, inr}
 use mathlib.Core.Bool.{Bool, true, false}
-use mathlib.Core.List.{List, _∷_}
+use mathlib.Core.List.{List}
 use Prim.Native.Nat.{ℕ, _<_, _^_}
 use native.Mathlib.Omega.{arith}
 use lib.Dec.{leb}
-use borrow.Author.Tests.{leb-true, not-false}
+use borrow.Author.Tests.{leb-true}
 use Rattle.refusals.specs.declared.Refusal.{Refusal}
 use Rattle.refusals.specs.declared.Refusal.the-variants.{BeyondReach}
 use Rattle.refusals.specs.Numbers.{Check}
-use Rattle.refusals.proofs.Checks.{Refuses, Passes, clear, refused, passed, decideChecks}
-use Rattle.symbols.specs.Rule.{isKnown, Known}
+use Rattle.refusals.proofs.Checks.{Refuses, Passes, refused, passed, decideChecks, passes-split}
+use Rattle.symbols.specs.Rule.{Known}
 use Rattle.symbols.proofs.Bytes.{test-known}
 use Rattle.curve.specs.Codes.{pointCount, reach}
+use Rattle.curve.specs.Answers.{codeChecks}
+use Rattle.curve.proofs.Naming.{passes-known}
 use Rattle.decoder.specs.declared.Decoded.the-variants.{Accepted, Refused}
 use Rattle.judging.specs.Judging.{countOf}
 use Rattle.decoder.specs.Decoding.{judgement, decoded, decodeChecks, decodeAnswer}
@@ -35,10 +37,6 @@ judged q u message row small = go (leb (countOf q u message row) (reach q u)) re
     go true within = omega (arith, small, leb-true (countOf q u message row) (reach q u) within)
     go false beyond = tt
 
--- where no check holds, the first does not
-first-fails : {first : Check} {others : List Check} → Passes (first ∷ others) → first .holds ≡ false
-first-fails (clear fails rest) = fails
-
 module _ (q u : ℕ) (row work message corrected : List ℕ) where
   abbrev checks : List Check
   checks = decodeChecks q u row work message corrected
@@ -48,10 +46,10 @@ module _ (q u : ℕ) (row work message corrected : List ℕ) where
   unfolding decodeAnswer
   if-refused refuses = subst CountFits (sym (refused Refused (decoded q u row) refuses)) tt
 
-  -- the first check is that q is known
+  -- q is known then
   known : Passes checks → Known q
   unfolding decodeChecks
-  known passes = test-known q (not-false (isKnown q) (first-fails passes))
+  known passes = test-known q (passes-known q u (passes-split (codeChecks q u) passes .0))
 
   -- what decoding answers after its checks
   if-passed : Passes checks → CountFits (decodeAnswer q u row work message corrected)

@@ -66,7 +66,6 @@ module _ (row work message corrected : List ℕ) (full : length row ≡ 64) (sym
       (record { known = known-tape; code = a-code; whole = full ∙ sym points-are; all-symbols = symbols })
       (record { for-work = room; for-message = omega (arith, dimension-is, places); for-corrected = omega (arith, points-are, rest) })
 
-
   -- the answer is the row's own
   pub answers : decodeAnswer tapeQ tapeU row work message corrected ≡ decoded tapeQ tapeU row
   unfolding decodeAnswer

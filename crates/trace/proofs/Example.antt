@@ -18,6 +18,7 @@ use Rattle.published.specs.Steps.{substitutedPart, substituted, raisedPart, red
 use Rattle.steps.specs.Stop.{stateAfter, votesAfter}
 use Rattle.judging.specs.Judging.{differing, countOf}
 use Rattle.decoder.specs.Decoding.{judgement, decoded}
+use Rattle.curve.specs.Answers.{codeChecks, symbolChecks}
 use Rattle.voting.specs.Voting.{voted}
 use Rattle.refusals.specs.Numbers.{firstOf}
 use Rattle.lines.specs.Text.{ascii, lastDigits, digits, spaced}
@@ -29,5 +30,5 @@ use Rattle.trace.specs.Trace.{lastLine, rowLines, traceChecks, answer, a
 use Rattle.trace.specs.Example.{exampleText, examplePrinted}
 
 pub example : traceText exampleText ≡ examplePrinted
-unfolding exampleText examplePrinted same power sum weight xPower yPower gap nongap shift timesX timesY timesYs timesMonomial monomialAt unit xPart yPart from tab keep size reducedBy twice chosen product powerOf inverseOf Below into symbols isKnown anyBeyond onCurve pair points pointAt pointCount nongaps dimension reach isCode messageAt rowOf rowNumbers width startWeight stepCount coefficient polynomial polynomials term h table ofTable vanishing one nothing negated startPart start areaSize degree isNegative positivePart negativePart isVoted partnerOf kOf best degreeOf degreeF degreeG leadF leadG looked pairing score vote substitutedPart substituted raisedPart reducedPart replaced exchanged ratio changed noPair updated pairings step after messageOf stateAfter votesAfter differing countOf judgement voted decoded firstOf ascii lastDigits digits spaced line request endsNumber grown numbersFrom asByte sameList isTaken saidBy reading acceptLine voteText stepText voteAt degrees stepLine stepLines lastLine rowLines traceChecks answer answerTo traceText
+unfolding exampleText examplePrinted same power sum weight xPower yPower gap nongap shift timesX timesY timesYs timesMonomial monomialAt unit xPart yPart from tab keep size reducedBy twice chosen product powerOf inverseOf Below into symbols isKnown anyBeyond onCurve pair points pointAt pointCount nongaps dimension reach isCode messageAt rowOf rowNumbers width startWeight stepCount coefficient polynomial polynomials term h table ofTable vanishing one nothing negated startPart start areaSize degree isNegative positivePart negativePart isVoted partnerOf kOf best degreeOf degreeF degreeG leadF leadG looked pairing score vote substitutedPart substituted raisedPart reducedPart replaced exchanged ratio changed noPair updated pairings step after messageOf stateAfter votesAfter differing countOf judgement voted decoded firstOf ascii lastDigits digits spaced line request endsNumber grown numbersFrom asByte sameList isTaken saidBy reading acceptLine voteText stepText voteAt degrees stepLine stepLines lastLine rowLines codeChecks symbolChecks traceChecks answer answerTo traceText
 example = refl

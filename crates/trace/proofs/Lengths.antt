@@ -15,7 +15,7 @@ use Rattle.lines.proofs.Digits.{digits-widen}
 use Rattle.refusals.specs.declared.Refusal.{Refusal}
 use Rattle.refusals.specs.declared.Refusal.the-variants.{WrongLength, BeyondReach}
 use Rattle.refusals.proofs.Checks.{Refuses, Passes, refused, passed, decideChecks}
-use Rattle.symbols.specs.Rule.{Known, symbols, number}
+use Rattle.symbols.specs.Rule.{Known, symbols}
 use Rattle.curve.specs.Codes.{pointCount, isCode, reach}
 use Rattle.curve.proofs.CodeLaws.{code-below, dimension-le}
 use Rattle.published.specs.Start.{width, startWeight, stepCount}
@@ -26,6 +26,7 @@ use Rattle.decoder.specs.declared.Decoded.the-variants.{Accepted, Refused}
 use Rattle.judging.specs.Judging.{countOf}
 use Rattle.decoder.specs.Decoding.{judgement, decoded}
 use Rattle.voting.specs.Voting.{voted}
+use Rattle.voting.proofs.Votes.{voted-count}
 use Rattle.request.specs.Request.{line, Said, asks, nothing, reading}
 use Rattle.request.proofs.Written.{length-code}
 use Rattle.report.specs.Report.{refuseLine, acceptLine}
@@ -34,7 +35,7 @@ use Rattle.steplines.specs.StepLines.{stepSize}
 use Rattle.steplines.proofs.Lengths.{numbers-most, length-steps}
 use Rattle.trace.specs.Trace.{lastLine, rowLines, traceChecks, answer, answerTo, traceText}
 use Rattle.trace.specs.Size.{firstSize, lastSize, traceSize, longestTrace}
-use Rattle.trace.proofs.Checked.{row-passes, length-voted}
+use Rattle.trace.proofs.Checked.{row-passes}
 
 -- the first line
 pub length-first-line : (q u : ℕ) → isCode q u ≡ true → length (line (q ∷ u ∷ [])) ≤ firstSize q
@@ -53,7 +54,7 @@ length-accepted : (q u count : ℕ) (row : List ℕ) → isCode q u ≡ true →
 unfolding lastSize
 length-accepted q u count row code few =
     let wide = suc (length (digits (q * q - 1))) in
-    let short : length (voted q u row) ≤ pointCount q = omega (arith, length-voted q u row, dimension-le q u code) in
+    let short : length (voted q u row) ≤ pointCount q = omega (arith, voted-count q u row, dimension-le q u code) in
     omega (
       arith,
       length-accept (pointCount q) (q * q - 1) count (voted q u row) few (voted-most q u row),

@@ -1,4 +1,3 @@
 pub mod Trace
-pub mod Rows
 pub mod Size
 pub mod Example

@@ -1,15 +1,12 @@
 -- What rowtrace prints. Document 01: "First q and u. Each step line: s, the vote (- if none), leading degrees of f by i, then of
 -- g, after the step. Last: the count and the message; for refusal 8, all lines and then "refuse 8"."
 -- Assumes nothing.
-use mathlib.Core.Bool.{not}
 use mathlib.Core.List.{List, [], _∷_, _++_}
 use Prim.Native.Nat.{ℕ}
-use lib.Dec.{eqb}
-use lib.ListN.{length}
-use Rattle.refusals.specs.declared.Refusal.the-variants.{UnknownQ, NoCode, WrongLength, NoSymbol}
-use Rattle.refusals.specs.Numbers.{Check, _if_, firstOf}
-use Rattle.symbols.specs.Rule.{isKnown, anyBeyond}
-use Rattle.curve.specs.Codes.{pointCount, isCode}
+use Rattle.refusals.specs.declared.Refusal.the-variants.{WrongLength}
+use Rattle.refusals.specs.Numbers.{Check, firstOf}
+use Rattle.curve.specs.Codes.{pointCount}
+use Rattle.curve.specs.Answers.{codeChecks, symbolChecks}
 use Rattle.published.specs.Start.{stepCount}
 use Rattle.decoder.specs.declared.Decoded.{Decoded}
 use Rattle.decoder.specs.declared.Decoded.the-variants.{Accepted, Refused}
@@ -30,12 +27,7 @@ rowLines q u row = line (q ∷ u ∷ []) ++ stepLines q u row (stepCount q) ++ l
 
 -- "a call refused by any number but 8": 1, 2, 4, 5
 unfoldable pub traceChecks : ℕ → ℕ → List ℕ → List Check
-traceChecks q u row =
-    (UnknownQ if not (isKnown q))
-    ∷ (NoCode if not (isCode q u))
-    ∷ (WrongLength if not (eqb (length row) (pointCount q)))
-    ∷ (NoSymbol if anyBeyond q row)
-    ∷ []
+traceChecks q u row = codeChecks q u ++ symbolChecks q (pointCount q) row
 
 -- "each as the only line"
 unfoldable pub answer : ℕ → ℕ → List ℕ → List ℕ

@@ -11,12 +11,12 @@ use steps::stop;
 ghost use Prim.Native.Nat.{_+_, _≤_};
 ghost use lib.ListN.{length};
 ghost use Rattle.lines.specs.Text.{Wrote};
+ghost use Rattle.curve.specs.Given.{Received};
 ghost use Rattle.workarea.specs.Area.{Starts, cellsOf};
 ghost use Rattle.steps.specs.Stop.{stateAfter};
 ghost use Rattle.voting.specs.Voting.{voted};
 ghost use Rattle.decoder.specs.Decoding.{decoded};
 ghost use Rattle.trace.specs.Trace.{lastLine, rowLines, answer as Trace·answer};
-ghost use Rattle.trace.specs.Rows.{Full};
 ghost use Rattle.trace.specs.Size.{lastSize, traceSize, longestTrace};
 
 // The last line, from what decoding answered and the message.
@@ -32,7 +32,7 @@ fn put_decoded(out: &mut [u8], at: usize, answered: Decoded, message: &[u8]) -> 
 
 // The last line: what decoding the row answers.
 fn put_last(out: &mut [u8], at: usize, q: usize, u: usize, row: &[u8], work: &mut [u8]) -> usize
-    requires { ⌜ Full q u (now row) ⌝ }
+    requires { ⌜ Received q u (now row) ⌝ }
     requires { ⌜ (1472 ≤ length (now work)) × (at + lastSize q ≤ length (now out)) ⌝ }
     ensures { λ r. ⌜ Wrote (now (out .entry)) at (lastLine (decoded q u (now (row .entry))) (voted q u (now (row .entry)))) (now (out .exit)) r ⌝ }
 {
@@ -45,7 +45,7 @@ fn put_last(out: &mut [u8], at: usize, q: usize, u: usize, row: &[u8], work: &mu
 
 // All lines of a full row whose start stands in the work area.
 fn put_lines(out: &mut [u8], q: usize, u: usize, row: &[u8], work: &mut [u8]) -> usize
-    requires { ⌜ Full q u (now row) ⌝ }
+    requires { ⌜ Received q u (now row) ⌝ }
     requires { ⌜ (1472 ≤ length (now work)) × (traceSize q ≤ length (now out)) ⌝ }
     requires { ⌜ Starts q (now work) (cellsOf q (stateAfter q u (now row) 0 .polys)) ⌝ }
     ensures { λ r. ⌜ Wrote (now (out .entry)) 0 (rowLines q u (now (row .entry))) (now (out .exit)) r ⌝ }

@@ -14,7 +14,7 @@ use Rattle.published.specs.Steps.{messageOf}
 use Rattle.steps.specs.Stop.{stateAfter, votesAfter}
 use Rattle.voting.specs.Voting.{voted}
 
-module _ (q : ℕ) (known : Known q) (u : ℕ) where
+module _ (q u : ℕ) where
   -- k symbols are voted
   pub voted-count : (row : List ℕ) → length (voted q u row) ≡ dimension q u
   unfolding voted votesAfter messageOf dimension
@@ -23,9 +23,9 @@ module _ (q : ℕ) (known : Known q) (u : ℕ) where
       ∙ length-map (nongaps q u) (λ s. getD (stateAfter q u row (stepCount q) .votes) s (symbols q .𝟘))
 
   -- all of them symbols of the field
-  pub voted-symbols : (row : List ℕ) → anyBeyond q (voted q u row) ≡ false
+  pub voted-symbols : Known q → (row : List ℕ) → anyBeyond q (voted q u row) ≡ false
   unfolding voted votesAfter
-  voted-symbols row = numbers-below q known (messageOf (symbols q) q u (stateAfter q u row (stepCount q) .votes))
+  voted-symbols known row = numbers-below q known (messageOf (symbols q) q u (stateAfter q u row (stepCount q) .votes))
 
   -- the votes after as many steps as there are
   pub voted-after : (row votes rest : List ℕ) (t : ℕ) → t ≡ stepCount q → votes ≡ votesAfter q u row t ++ rest → votes ≡ voted q u row ++ rest

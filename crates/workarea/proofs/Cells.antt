@@ -8,11 +8,11 @@ use Prim.Native.Nat.{ℕ, _+_, _-_, _*_, _<_, _≤_}
 use native.Mathlib.Nat.{mul-assoc, mul-comm}
 use native.Mathlib.Omega.{arith}
 use lib.Dec.{eqb, leb, ltb}
-use lib.ListN.{length, getD}
+use lib.ListN.{getD}
 use borrow.Author.Tests.{eq-eqb, ne-eqb, le-leb, lt-leb, lt-ltb, le-ltb}
 use Rattle.lists.specs.Tables.{put}
 use Rattle.lists.proofs.Numbers.{lt-or-ge, same-or-not}
-use Rattle.lists.proofs.Grid.{grid, row-within, rows-apart, length-grid, grid-read, grid-same, grid-put}
+use Rattle.lists.proofs.Grid.{grid, row-within, rows-apart, grid-read, grid-same, grid-put}
 use Rattle.symbols.specs.Rule.{symbols, Sym, number}
 use Rattle.published.specs.Start.{Polynomials, width}
 use Rattle.published.specs.Picture.{areaSize, layout, cellNumber, picture}
@@ -50,10 +50,6 @@ module _ (q : ℕ) where
   pub picture-is : (S : Polynomials (symbols q) q) → picture (symbols q) q S ≡ shown q (cellsOf q S)
   unfolding picture cellNumber shown numbers cellsOf
   picture-is S = refl
-
-  -- how many bytes show the cells
-  pub length-shown : (S : Cells q) → length (shown q S) ≡ areaSize q
-  length-shown S = rw (shown-grid S) (length-grid (2 * q) (2 * q) (width q) (numbers q S) ∙ sym (size-is q))
 
   -- what is read in the bytes
   pub shown-read : (S : Cells q) (l rest : List ℕ) → l ≡ shown q S ++ rest → (p r i : ℕ) → p < 2 * q → r < 2 * q → i < width q

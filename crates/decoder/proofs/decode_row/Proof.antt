@@ -11,7 +11,7 @@ use lib.ListN.{drop, replicate}
 use Rattle.curve.specs.Codes.{pointCount, dimension}
 use Rattle.curve.specs.Given.{Received}
 use Rattle.curve.proofs.CodeLaws.{dimension-le}
-use Rattle.encoder.proofs.RowSymbols.{count-small}
+use Rattle.curve.proofs.Sizes.{count-small}
 use Rattle.decoder.proofs.Judgements.{Voted, Judged, votes-count, votes-fit, votes-message, sent-count, sent-fit, beyond, within, message-kept, corrected-kept, message-written, corrected-written}
 use Rattle.decoder.proofs.decode_row.Statement.{statement}
 use Rattle.decoder.proofs.decode_row.Tie as tie

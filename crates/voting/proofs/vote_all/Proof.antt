@@ -44,7 +44,7 @@ returns c =
     let row = now (at .args .row) in (
       picture-cleared (at .args .code .q) (at .args .code .u) row _ (now (at .args .work)) _ _
           (size .area-size .ensures) (advanced .advance .ensures .0) _ (c .before .before .clear .ensures),
-      voted-after (at .args .code .q) (at .pre .0 .0 .known) (at .args .code .u) row _ _ (steps .step-count .result) (steps .step-count .ensures) (advanced .advance .ensures .1),
+      voted-after (at .args .code .q) (at .args .code .u) row _ _ (steps .step-count .result) (steps .step-count .ensures) (advanced .advance .ensures .1),
     )
 
 pub vote-all-spec : {M : Type 1} → statement M

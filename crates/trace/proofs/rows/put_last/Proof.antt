@@ -11,7 +11,8 @@ use Rattle.curve.proofs.CodeLaws.{code-below, dimension-le}
 use Rattle.voting.specs.Voting.{voted}
 use Rattle.decoder.specs.Decoding.{decoded}
 use Rattle.trace.specs.Trace.{lastLine}
-use Rattle.trace.proofs.Checked.{points-few, decode-answer, last-line}
+use Rattle.trace.proofs.Checked.{decode-answer, last-line}
+use Rattle.curve.proofs.Sizes.{count-small}
 use Rattle.trace.proofs.Lengths.{length-last}
 use borrow.Author.Needs.{needs}
 use Rattle.trace.proofs.rows.put_last.Statement.{statement}
@@ -46,7 +47,7 @@ message-room c =
       arith,
       c .dimension .ensures,
       dimension-le (start c .args .q) (start c .args .u) (full .code),
-      points-few (start c .args .q) (full .known),
+      count-small (start c .args .q) (full .known),
       called c .decode .kept .1 .1 .1 .1 .0,
     )
 
