@@ -1,25 +1,23 @@
 -- Rows as numbers: how long they are, and that they are symbols.
 -- Assumes nothing.
-use mathlib.Core.Path.{_≡_, sym, _∙_}
+use mathlib.Core.Path.{_≡_, sym, ap, _∙_}
 use mathlib.Core.Bool.{false}
 use mathlib.Core.List.{List, map, _++_}
 use Prim.Native.Nat.{ℕ}
-use lib.ListN.{length, take, length-map}
+use lib.ListN.{length, take}
 use lib.Seq.{take-at}
-use Rattle.symbols.specs.Rule.{Known, symbols, number, symbol, anyBeyond}
+use Rattle.lists.proofs.Tables.{length-tab}
+use Rattle.symbols.specs.Rule.{Known, symbols, symbol, anyBeyond}
 use Rattle.symbols.proofs.SymbolLists.{numbers-below}
 use Rattle.curve.specs.Codes.{pointCount}
 use Rattle.curve.specs.Rows.{rowOf}
-use Rattle.curve.proofs.Arranged.{points-arranged}
-use Rattle.curve.proofs.RowLaws.{row-length}
 use Rattle.encoder.specs.Encoding.{rowNumbers}
+use Rattle.encoder.proofs.RowNumbers.{rowNumber, row-numbers}
 
 module _ (q : ℕ) (known : Known q) (u : ℕ) where
   -- a row has n symbols
   pub row-count : (message : List ℕ) → length (rowNumbers q u message) ≡ pointCount q
-  unfolding rowNumbers
-  row-count message =
-      length-map (rowOf (symbols q) q u (map (symbol q) message)) (number q) ∙ row-length (points-arranged q known) u (map (symbol q) message)
+  row-count message = ap length (row-numbers q u message known) ∙ length-tab (pointCount q) (rowNumber q u message)
 
   -- all of them symbols of the field
   pub row-symbols : (message : List ℕ) → anyBeyond q (rowNumbers q u message) ≡ false
