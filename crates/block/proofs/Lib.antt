@@ -1,9 +1,3 @@
-pub mod Verdicts
-pub mod Start
-pub mod Rounds
-pub mod Ends
-pub mod Again
-pub mod Copies
 pub mod CodeRows
 pub mod Unchanged
 pub mod PayloadBack

@@ -14,14 +14,14 @@ use Rattle.published.specs.Picture.{areaSize}
 use Rattle.layout.specs.Layout.{tapeQ, rowCount, isBlock, blockRow}
 use Rattle.layout.proofs.Laying.{laid-count, laid-block, row-laid}
 use Rattle.taperow.specs.Reading.{rowRecord}
-use Rattle.block.specs.Verification.{verdictFrom, allRecords, checksFor, verifyChecks, verifyAnswer}
-use Rattle.block.specs.Verification.{verifyRecords}
-use Rattle.block.specs.AsBytes.{recordBytes, byteChecks, verifyBytesAnswer, verifyBytesRecords}
+use Rattle.verifying.specs.Verification.{verdictFrom, allRecords, checksFor, verifyChecks, verifyAnswer}
+use Rattle.verifying.specs.Verification.{verifyRecords}
+use Rattle.verifying.specs.AsBytes.{recordBytes, byteChecks, verifyBytesAnswer, verifyBytesRecords}
 use Rattle.taperow.specs.Laying.{codeRow}
 use Rattle.block.specs.Writing.{rowsFilled, isPayload, codeRows, blockFor}
 use Rattle.block.specs.Untouched.{unchanged, Untouched}
 use Rattle.taperow.specs.declared.Record.{Record}
-use Rattle.block.specs.declared.Verified.the-variants.{Copied, Refused}
+use Rattle.verifying.specs.declared.Verified.the-variants.{Copied, Refused}
 use Rattle.taperow.proofs.CodeRow.{unchanged-row}
 use Rattle.block.proofs.CodeRows.{fills, rows-count, row-is, rows-symbolic}
 

@@ -1,6 +1,2 @@
-pub mod Verification
-pub mod Inside
-pub mod AsBytes
-pub mod Copy
 pub mod Writing
 pub mod Untouched

@@ -8,10 +8,10 @@ use Prim.Native.Nat.{ℕ, _≤_, _<_}
 use lib.ListN.{length, drop, replicate}
 use Rattle.published.specs.Picture.{areaSize}
 use Rattle.layout.specs.Layout.{tapeQ, rowCount, isBlock, blockRow}
-use Rattle.block.specs.Verification.{verifyAnswer, verifyRecords}
+use Rattle.verifying.specs.Verification.{verifyAnswer, verifyRecords}
 use Rattle.taperow.specs.Laying.{codeRow}
 use Rattle.taperow.specs.declared.Record.{Record}
-use Rattle.block.specs.declared.Verified.the-variants.{Copied}
+use Rattle.verifying.specs.declared.Verified.the-variants.{Copied}
 
 -- the record of a row that is equal, with no symbol changed
 abbrev pub unchanged : Record

@@ -7,7 +7,7 @@ use native.Mathlib.Omega.{arith}
 use lib.ListN.{length, getD}
 use Rattle.lists.specs.Tables.{tab}
 use Rattle.lists.proofs.Tables.{length-tab, getD-tab}
-use Rattle.block.specs.AsBytes.{recordBytes}
+use Rattle.verifying.specs.AsBytes.{recordBytes}
 use Rattle.taperow.specs.declared.Record.{Record}
 
 -- the state of record r of a list

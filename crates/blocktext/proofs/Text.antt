@@ -18,14 +18,14 @@ use Rattle.refusals.specs.Numbers.{Check, firstOf}
 use Rattle.refusals.proofs.Checks.{Refuses, Passes, refused, passed, decideChecks}
 use Rattle.layout.specs.Layout.{rowCount}
 use Rattle.taperow.specs.Reading.{rowRecord}
-use Rattle.block.specs.Verification.{verdictFrom, allRecords}
-use Rattle.block.specs.AsBytes.{byteChecks, verifyBytesAnswer, verifyBytesRecords}
+use Rattle.verifying.specs.Verification.{verdictFrom, allRecords}
+use Rattle.verifying.specs.AsBytes.{byteChecks, verifyBytesAnswer, verifyBytesRecords}
 use Rattle.taperow.specs.declared.Record.{Record}
-use Rattle.block.proofs.Verdicts.{byState}
-use Rattle.block.proofs.Start.{fit}
-use Rattle.block.specs.declared.Verified.{Verified}
-use Rattle.block.specs.declared.Verified.the-variants.{Copied, Differs, Unreadable, Refused}
-use Rattle.block.proofs.Verified.{the-type}
+use Rattle.verifying.proofs.Verdicts.{byState}
+use Rattle.verifying.proofs.Start.{fit}
+use Rattle.verifying.specs.declared.Verified.{Verified}
+use Rattle.verifying.specs.declared.Verified.the-variants.{Copied, Differs, Unreadable, Refused}
+use Rattle.verifying.proofs.Verified.{the-type}
 use Rattle.blocktext.specs.Report.{rowLines, verdictLine, lineAt, rowsTold}
 use Rattle.blocktext.proofs.Joined.{join-same}
 use Rattle.blocktext.proofs.RecordBytes.{state-of, count-of}

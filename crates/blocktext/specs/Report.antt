@@ -11,11 +11,11 @@ use Rattle.lines.specs.Text.{ascii, digits}
 use Rattle.refusals.specs.Numbers.{refusalNumber, firstOf}
 use Rattle.layout.specs.Layout.{rowCount}
 use Rattle.taperow.specs.Reading.{rowRecord}
-use Rattle.block.specs.Verification.{verdictFrom, allRecords}
-use Rattle.block.specs.AsBytes.{byteChecks}
+use Rattle.verifying.specs.Verification.{verdictFrom, allRecords}
+use Rattle.verifying.specs.AsBytes.{byteChecks}
 use Rattle.taperow.specs.declared.Record.{Record}
-use Rattle.block.specs.declared.Verified.{Verified}
-use Rattle.block.specs.declared.Verified.the-variants.{Copied, Differs, Unreadable, Refused}
+use Rattle.verifying.specs.declared.Verified.{Verified}
+use Rattle.verifying.specs.declared.Verified.the-variants.{Copied, Differs, Unreadable, Refused}
 use Rattle.block.specs.declared.Written.{Written}
 use Rattle.block.specs.declared.Written.the-variants.{Length, Refused as Unwritten}
 

@@ -10,8 +10,8 @@ use Rattle.steps.specs.declared.Stopped.{Stopped}
 use Rattle.steps.specs.declared.Stopped.the-variants.{Done as Stepped, Refused as Halted}
 use Rattle.decoder.specs.declared.Decoded.{Decoded}
 use Rattle.decoder.specs.declared.Decoded.the-variants.{Accepted, Refused as Declined}
-use Rattle.block.specs.declared.Verified.{Verified}
-use Rattle.block.specs.declared.Verified.the-variants.{Copied, Differs, Unreadable, Refused as Rejected}
+use Rattle.verifying.specs.declared.Verified.{Verified}
+use Rattle.verifying.specs.declared.Verified.the-variants.{Copied, Differs, Unreadable, Refused as Rejected}
 use Rattle.block.specs.declared.Written.{Written}
 use Rattle.block.specs.declared.Written.the-variants.{Length, Refused as Unwritten}
 

@@ -4,7 +4,7 @@ ghost use mathlib.Core.Path.{_≡_};
 ghost use Rattle.encoder.specs.Encoding.{encodeAnswer, encodeOutput};
 ghost use Rattle.steps.specs.Stop.{stopAnswer, stopWork, stopOutput};
 ghost use Rattle.decoder.specs.Decoding.{decodeAnswer, decodeWork, decodeMessage, decodeCorrected};
-ghost use Rattle.block.specs.AsBytes.{verifyBytesAnswer, verifyBytesRecords, verifyBytesWork};
+ghost use Rattle.verifying.specs.AsBytes.{verifyBytesAnswer, verifyBytesRecords, verifyBytesWork};
 ghost use Rattle.block.specs.Writing.{writeAnswer, writeBlock};
 ghost use Rattle.results.specs.Results.{encodeResult, stopResult, decodeResult, verifyResult, verifyAt, writeResult};
 use block::verify_bytes;

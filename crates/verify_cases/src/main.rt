@@ -8,7 +8,7 @@ use libc::STDOUT_FILENO;
 ghost use mathlib.Core.Path.{_≡_};
 ghost use Prim.Native.Nat.{_≤_};
 ghost use lib.ListN.{length, replicate};
-ghost use Rattle.block.specs.Verification.{verifyRecords};
+ghost use Rattle.verifying.specs.Verification.{verifyRecords};
 ghost use Rattle.verify_cases.specs.Blank.{blank};
 
 // Writes a case's name and its verdict.

@@ -2,7 +2,7 @@
 -- out so that a wrong arm is refused here, and not first where `place_of` is called. Assumes nothing.
 use borrow.Author.Needs.{needs}
 use mathlib.Core.Path.{sym, ap}
-use Rattle.block.specs.declared.Verified.{Verified}
+use Rattle.verifying.specs.declared.Verified.{Verified}
 use Rattle.results.specs.Results.{verifyAt}
 use Rattle.results.proofs.place_of.Statement.{statement}
 use Rattle.results.proofs.place_of.Tie as tie

@@ -24,9 +24,9 @@ use denote.Triple.Statement.{Triple}
 use denote.Triple.Table.{entered, cited}
 use denote.Triple.Walked.{goes-none-slice, goes-gave-slice, Walks, walked, walk-meets}
 use denote.Exit.{yes}
-use Rattle.block.proofs.verify.Symbol as ver-def
-use Rattle.block.proofs.verify.Symbol.{name as #verify}
-use Rattle.block.proofs.verify.Met as ver-thm
+use Rattle.verifying.proofs.verify.Symbol as ver-def
+use Rattle.verifying.proofs.verify.Symbol.{name as #verify}
+use Rattle.verifying.proofs.verify.Met as ver-thm
 use Rattle.verify_cases.proofs.recorded.Key.{name as #recorded}
 use Rattle.verify_cases.proofs.recorded as f′
 use Rattle.verify_cases.proofs.recorded.Statement as stated

@@ -39,16 +39,16 @@ use denote.Triple.Call.{calls-at}
 use denote.Triple.Clauses.{ensured, Lasts, lasts}
 use denote.Triple.Walked.{says, ends-at}
 use Rattle.taperow.specs.declared.Record.{Record}
-use Rattle.block.specs.declared.Verified.{Verified}
-use Rattle.block.specs.declared.Verified.the-variants.{Copied}
-use Rattle.block.specs.Copy.{CopyOf}
-use Rattle.block.specs.Verification.{verifyAnswer, verifyWork}
+use Rattle.verifying.specs.declared.Verified.{Verified}
+use Rattle.verifying.specs.declared.Verified.the-variants.{Copied}
+use Rattle.verifying.specs.Copy.{CopyOf}
+use Rattle.verifying.specs.Verification.{verifyAnswer, verifyWork}
 use Rattle.taperow.proofs.Record as T
 use Rattle.taperow.proofs.Record.Laws as T′
-use Rattle.block.proofs.Verified as S
-use Rattle.block.proofs.Verified.Laws as S′
-use Rattle.block.proofs.verify as ver
-use Rattle.block.proofs.verify.Symbol.{name as #verify}
+use Rattle.verifying.proofs.Verified as S
+use Rattle.verifying.proofs.Verified.Laws as S′
+use Rattle.verifying.proofs.verify as ver
+use Rattle.verifying.proofs.verify.Symbol.{name as #verify}
 use Rattle.verify_cases.specs.Blank.{blank}
 use Rattle.verify_cases.proofs.Lent.{lends-array, array-back}
 use Rattle.verify_cases.proofs.recorded as f′

@@ -29,10 +29,10 @@ use denote.Triple.Statement.{Contract}
 use denote.Triple.Walked.{Stays, stay-none-slice, gave-slice, walkOf}
 use denote.Exit.{yes}
 use Rattle.taperow.specs.declared.Record.{Record}
-use Rattle.block.specs.Verification.{verifyRecords}
+use Rattle.verifying.specs.Verification.{verifyRecords}
 use Rattle.taperow.proofs.Record as T
 use Rattle.taperow.proofs.Record.Laws as T′
-use Rattle.block.proofs.verify as ver
+use Rattle.verifying.proofs.verify as ver
 use Rattle.verify_cases.specs.Blank.{blank}
 use Rattle.verify_cases.proofs.recorded as f′
 

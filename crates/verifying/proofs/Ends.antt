@@ -13,13 +13,13 @@ use Rattle.published.specs.Picture.{areaSize}
 use Rattle.voting.specs.Voting.{cleared}
 use Rattle.layout.specs.Layout.{tapeQ, rowCount}
 use Rattle.taperow.specs.Reading.{rowRecord}
-use Rattle.block.specs.Verification.{checksFor, verdictFrom, allRecords, verifyChecks, verifyAnswer, verifyRecords, verifyWork}
-use Rattle.block.specs.Inside.{verdictBefore, rowsToRead}
-use Rattle.block.specs.AsBytes.{recordBytes, byteChecks, verifyBytesAnswer, verifyBytesRecords, verifyBytesWork}
+use Rattle.verifying.specs.Verification.{checksFor, verdictFrom, allRecords, verifyChecks, verifyAnswer, verifyRecords, verifyWork}
+use Rattle.verifying.specs.Inside.{verdictBefore, rowsToRead}
+use Rattle.verifying.specs.AsBytes.{recordBytes, byteChecks, verifyBytesAnswer, verifyBytesRecords, verifyBytesWork}
 use Rattle.taperow.specs.declared.Record.{Record}
-use Rattle.block.specs.declared.Verified.{Verified}
-use Rattle.block.specs.declared.Verified.the-variants.{Refused}
-use Rattle.block.proofs.Rounds.{worked, after, after-all, rowsRead, ends-in}
+use Rattle.verifying.specs.declared.Verified.{Verified}
+use Rattle.verifying.specs.declared.Verified.the-variants.{Refused}
+use Rattle.verifying.proofs.Rounds.{worked, after, after-all, rowsRead, ends-in}
 
 -- whatever a record is stored as
 module _ (block payload : List ℕ) (records work : ℕ) where

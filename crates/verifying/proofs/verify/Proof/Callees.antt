@@ -27,14 +27,14 @@ use denote.Struct.Laws as LL
 use denote.Enum.Laws as EL
 use denote.Triple.Walked.{says}
 use Rattle.published.specs.Picture.{areaSize}
-use Rattle.block.specs.declared.Verified.{Verified}
+use Rattle.verifying.specs.declared.Verified.{Verified}
 use Rattle.layout.specs.Layout.{tapeQ}
-use Rattle.block.specs.Inside.{totalOf}
+use Rattle.verifying.specs.Inside.{totalOf}
 use Rattle.taperow.proofs.Record as T
 use Rattle.taperow.proofs.Record.Laws as T′
-use Rattle.block.proofs.Verified as S
-use Rattle.block.proofs.Verified.Laws as S′
-use Rattle.block.proofs.verify.Proof.Ground.{Passed, Before, Rows, Row, Next, sb, sp, sw, xw, f, ws, vs, OB, OP}
+use Rattle.verifying.proofs.Verified as S
+use Rattle.verifying.proofs.Verified.Laws as S′
+use Rattle.verifying.proofs.verify.Proof.Ground.{Passed, Before, Rows, Row, Next, sb, sp, sw, xw, f, ws, vs, OB, OP}
 
 module _ {M : Type 1} (𝓤 : URA M) (H : Heap 𝓤) (A : Atoms 𝓤) (W : Given 𝓤 H A) (mem : Memory → SProp 𝓤) (run : Routine → Fun 𝓤)
     (p : Passed) where

@@ -23,13 +23,13 @@ use Rattle.decoder.specs.Decoding.{decoded}
 use Rattle.layout.specs.Layout.{tapeQ, tapeU, rowCount, blockRow, payloadRow}
 use Rattle.lists.specs.Same.{sameList}
 use Rattle.taperow.specs.Reading.{outcome, rowRecord}
-use Rattle.block.specs.Verification.{checksFor, verdictFrom, allRecords, verifyChecks, verifyAnswer}
-use Rattle.block.specs.AsBytes.{byteChecks, verifyBytesAnswer}
-use Rattle.block.specs.Copy.{ReadAs, CopyOf}
+use Rattle.verifying.specs.Verification.{checksFor, verdictFrom, allRecords, verifyChecks, verifyAnswer}
+use Rattle.verifying.specs.AsBytes.{byteChecks, verifyBytesAnswer}
+use Rattle.verifying.specs.Copy.{ReadAs, CopyOf}
 use Rattle.taperow.specs.declared.Record.{Record}
-use Rattle.block.specs.declared.Verified.{Verified}
-use Rattle.block.specs.declared.Verified.the-variants.{Copied, Refused}
-use Rattle.block.proofs.Verdicts.{byState}
+use Rattle.verifying.specs.declared.Verified.{Verified}
+use Rattle.verifying.specs.declared.Verified.the-variants.{Copied, Refused}
+use Rattle.verifying.proofs.Verdicts.{byState}
 use Rattle.taperow.proofs.Outcomes.{accepted-within}
 
 -- only an acceptance of the same message has state 0

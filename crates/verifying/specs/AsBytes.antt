@@ -7,10 +7,10 @@ use Rattle.refusals.specs.Numbers.{Check, firstOf}
 use Rattle.published.specs.Picture.{areaSize}
 use Rattle.voting.specs.Voting.{cleared}
 use Rattle.layout.specs.Layout.{tapeQ, rowCount}
-use Rattle.block.specs.Verification.{checksFor, verdictFrom, allRecords}
+use Rattle.verifying.specs.Verification.{checksFor, verdictFrom, allRecords}
 use Rattle.taperow.specs.declared.Record.{Record}
-use Rattle.block.specs.declared.Verified.{Verified}
-use Rattle.block.specs.declared.Verified.the-variants.{Refused}
+use Rattle.verifying.specs.declared.Verified.{Verified}
+use Rattle.verifying.specs.declared.Verified.the-variants.{Refused}
 
 -- "state 0 equal, 1 accepted but other message, 2 unreadable; and the count": the state's byte, then the count's
 unfoldable pub recordBytes : List Record → List ℕ

@@ -16,10 +16,10 @@ use denote.Laws.{Is}
 use denote.Ref.{now}
 use Rattle.published.specs.Picture.{areaSize}
 use Rattle.layout.specs.Layout.{tapeQ}
-use Rattle.block.proofs.Verified as S
+use Rattle.verifying.proofs.Verified as S
 use Rattle.lists.proofs.Filled.{fill-length}
-use Rattle.block.proofs.Rounds.{work-kept, Ready, ready, rows-fit}
-use Rattle.block.proofs.verify.Proof.Ground.{Passed, f, n, ys, ws, vs}
+use Rattle.verifying.proofs.Rounds.{work-kept, Ready, ready, rows-fit}
+use Rattle.verifying.proofs.verify.Proof.Ground.{Passed, f, n, ys, ws, vs}
 
 module _ (p : Passed) where
   open Passed p using (B, P, ys₀, ws₀, room-r)

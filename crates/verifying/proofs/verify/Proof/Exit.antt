@@ -26,20 +26,20 @@ use denote.Struct.Laws as LL
 use denote.Enum.Laws as EL
 use denote.Triple.Walked.{ends-at}
 use Rattle.taperow.specs.declared.Record.{Record}
-use Rattle.block.specs.declared.Verified.{Verified}
-use Rattle.block.specs.declared.Verified.the-variants.{Copied}
-use Rattle.block.specs.Verification.{verifyAnswer, verifyRecords, verifyWork}
-use Rattle.block.specs.Copy.{CopyOf}
+use Rattle.verifying.specs.declared.Verified.{Verified}
+use Rattle.verifying.specs.declared.Verified.the-variants.{Copied}
+use Rattle.verifying.specs.Verification.{verifyAnswer, verifyRecords, verifyWork}
+use Rattle.verifying.specs.Copy.{CopyOf}
 use Rattle.taperow.proofs.Record as T
 use Rattle.taperow.proofs.Record.Laws as T′
-use Rattle.block.proofs.Verified as S
-use Rattle.block.proofs.Verified.Laws as S′
+use Rattle.verifying.proofs.Verified as S
+use Rattle.verifying.proofs.Verified.Laws as S′
 use Rattle.lists.proofs.Filled.{fill-length}
-use Rattle.block.proofs.Rounds.{work-kept, rows-fit}
-use Rattle.block.proofs.Copies.{copied-is-a-copy}
-use Rattle.block.proofs.Ends.{verify-answer, verify-records, verify-work}
-use Rattle.block.proofs.verify as f′
-use Rattle.block.proofs.verify.Proof.Ground.{Passed, stayed, sr, xr, f, n, ys, ws, vs, OB, OP, OW, bound, Post}
+use Rattle.verifying.proofs.Rounds.{work-kept, rows-fit}
+use Rattle.verifying.proofs.Copies.{copied-is-a-copy}
+use Rattle.verifying.proofs.Ends.{verify-answer, verify-records, verify-work}
+use Rattle.verifying.proofs.verify as f′
+use Rattle.verifying.proofs.verify.Proof.Ground.{Passed, stayed, sr, xr, f, n, ys, ws, vs, OB, OP, OW, bound, Post}
 
 module _ {M : Type 1} (𝓤 : URA M) (H : Heap 𝓤) (A : Atoms 𝓤) (W : Given 𝓤 H A) where
   -- a machine value of a record, and of a verdict, has its type

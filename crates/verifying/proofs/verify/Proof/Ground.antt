@@ -24,16 +24,16 @@ use denote.Triple.Walked.{Stays, stay-none-slice, stay-slice, walkOf}
 use denote.Exit.{yes}
 use Rattle.lists.specs.Tables.{tab}
 use Rattle.taperow.specs.declared.Record.{Record}
-use Rattle.block.specs.declared.Verified.{Verified}
+use Rattle.verifying.specs.declared.Verified.{Verified}
 use Rattle.taperow.specs.Reading.{rowRecord}
-use Rattle.block.specs.Inside.{verdictBefore}
+use Rattle.verifying.specs.Inside.{verdictBefore}
 use Rattle.taperow.proofs.Record as T
-use Rattle.block.proofs.Rounds.{worked, after, rowsRead}
-use Rattle.block.proofs.verdict.verdict_before as before
-use Rattle.block.proofs.verdict.rows_to_read as rows
-use Rattle.block.proofs.verdict.next_verdict as next
+use Rattle.verifying.proofs.Rounds.{worked, after, rowsRead}
+use Rattle.verifying.proofs.verdict.verdict_before as before
+use Rattle.verifying.proofs.verdict.rows_to_read as rows
+use Rattle.verifying.proofs.verdict.next_verdict as next
 use Rattle.taperow.proofs.row_record as row
-use Rattle.block.proofs.verify as f′
+use Rattle.verifying.proofs.verify as f′
 
 abbrev pub stayed : Stays (f′.ended .signature .params) (f′.ended .kept)
 stayed = (

@@ -27,24 +27,24 @@ use denote.Triple.Table.{entered, cited}
 use denote.Triple.Walked.{goes-none-slice, goes-slice, Walks, walked, walk-meets}
 use denote.Exit.{yes}
 use Rattle.taperow.proofs.Record as T
-use Rattle.block.proofs.verdict.verdict_before.Symbol as before-def
-use Rattle.block.proofs.verdict.verdict_before.Symbol.{name as #before}
-use Rattle.block.proofs.verdict.verdict_before.Met as before-thm
-use Rattle.block.proofs.verdict.rows_to_read.Symbol as rows-def
-use Rattle.block.proofs.verdict.rows_to_read.Symbol.{name as #rows}
-use Rattle.block.proofs.verdict.rows_to_read.Met as rows-thm
-use Rattle.block.proofs.verdict.next_verdict.Symbol as next-def
-use Rattle.block.proofs.verdict.next_verdict.Symbol.{name as #next}
-use Rattle.block.proofs.verdict.next_verdict.Met as next-thm
+use Rattle.verifying.proofs.verdict.verdict_before.Symbol as before-def
+use Rattle.verifying.proofs.verdict.verdict_before.Symbol.{name as #before}
+use Rattle.verifying.proofs.verdict.verdict_before.Met as before-thm
+use Rattle.verifying.proofs.verdict.rows_to_read.Symbol as rows-def
+use Rattle.verifying.proofs.verdict.rows_to_read.Symbol.{name as #rows}
+use Rattle.verifying.proofs.verdict.rows_to_read.Met as rows-thm
+use Rattle.verifying.proofs.verdict.next_verdict.Symbol as next-def
+use Rattle.verifying.proofs.verdict.next_verdict.Symbol.{name as #next}
+use Rattle.verifying.proofs.verdict.next_verdict.Met as next-thm
 use Rattle.taperow.proofs.row_record.Symbol as row-def
 use Rattle.taperow.proofs.row_record.Symbol.{name as #row}
 use Rattle.taperow.proofs.row_record.Met as row-thm
-use Rattle.block.proofs.verify.Key.{name as #verify}
-use Rattle.block.proofs.verify as f′
-use Rattle.block.proofs.verify.Statement as stated
-use Rattle.block.proofs.verify.Code as code
-use Rattle.block.proofs.verify.Proof.Ground.{Passed, stayed, Before, Rows, Row, Next, sb, sp, sr, sw, a, vals, Post}
-use Rattle.block.proofs.verify.Proof.Start.{starts}
+use Rattle.verifying.proofs.verify.Key.{name as #verify}
+use Rattle.verifying.proofs.verify as f′
+use Rattle.verifying.proofs.verify.Statement as stated
+use Rattle.verifying.proofs.verify.Code as code
+use Rattle.verifying.proofs.verify.Proof.Ground.{Passed, stayed, Before, Rows, Row, Next, sb, sp, sr, sw, a, vals, Post}
+use Rattle.verifying.proofs.verify.Proof.Start.{starts}
 mod Ground
 mod Callees
 mod Exit
@@ -140,10 +140,10 @@ verify-spec 𝓤 H 𝓜 𝓖 𝓡 =
     (tables 𝓤 H 𝓜 𝓡 code.env .C) (tables 𝓤 H 𝓜 𝓡 code.env .Λ) #verify code.function (code.unfolded 𝓤 H 𝓜 𝓡)
     (verify-meets 𝓤 H (𝓖 .A) (givenOf 𝓤 H 𝓜 𝓖) (𝓜 .mem) (𝓡 .run) (tablesOf 𝓤 H 𝓜 (tables 𝓤 H 𝓜 𝓡 code.env))
     (cited 𝓤 H (Before 𝓤 H (𝓖 .A) (𝓜 .mem) (𝓡 .run)) 𝓜 𝓡 code.env #before before-def.routine
-    code.calls-block·verdict·verdict-before (before-thm.met 𝓤 H 𝓜 𝓖 𝓡))
-    (cited 𝓤 H (Rows 𝓤 H (𝓖 .A) (𝓜 .mem) (𝓡 .run)) 𝓜 𝓡 code.env #rows rows-def.routine code.calls-block·verdict·rows-to-read
+    code.calls-verifying·verdict·verdict-before (before-thm.met 𝓤 H 𝓜 𝓖 𝓡))
+    (cited 𝓤 H (Rows 𝓤 H (𝓖 .A) (𝓜 .mem) (𝓡 .run)) 𝓜 𝓡 code.env #rows rows-def.routine code.calls-verifying·verdict·rows-to-read
     (rows-thm.met 𝓤 H 𝓜 𝓖 𝓡))
     (cited 𝓤 H (Row 𝓤 H (𝓖 .A) (𝓜 .mem) (𝓡 .run)) 𝓜 𝓡 code.env #row row-def.routine code.calls-taperow·row-record
     (row-thm.met 𝓤 H 𝓜 𝓖 𝓡))
-    (cited 𝓤 H (Next 𝓤 H (𝓖 .A) (𝓜 .mem) (𝓡 .run)) 𝓜 𝓡 code.env #next next-def.routine code.calls-block·verdict·next-verdict
+    (cited 𝓤 H (Next 𝓤 H (𝓖 .A) (𝓜 .mem) (𝓡 .run)) 𝓜 𝓡 code.env #next next-def.routine code.calls-verifying·verdict·next-verdict
     (next-thm.met 𝓤 H 𝓜 𝓖 𝓡)))

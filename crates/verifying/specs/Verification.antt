@@ -13,8 +13,8 @@ use Rattle.voting.specs.Voting.{cleared}
 use Rattle.layout.specs.Layout.{tapeQ, rowCount, isBlock}
 use Rattle.taperow.specs.declared.Record.{Record}
 use Rattle.taperow.specs.Reading.{rowRecord}
-use Rattle.block.specs.declared.Verified.{Verified}
-use Rattle.block.specs.declared.Verified.the-variants.{Copied, Differs, Unreadable, Refused}
+use Rattle.verifying.specs.declared.Verified.{Verified}
+use Rattle.verifying.specs.declared.Verified.the-variants.{Copied, Differs, Unreadable, Refused}
 
 -- "The answer names the first row not in state 0 as Differs or Unreadable; if there is none, Copied with the sum of counts."
 -- Rows from r on, after rows in state 0 whose counts add up to `total`

@@ -31,25 +31,25 @@ use denote.Triple.Statement.{Triple}
 use denote.Triple.Call.{calls-at}
 use denote.Triple.Clauses.{ensured, Lasts, lasts}
 use Rattle.taperow.specs.declared.Record.{Record}
-use Rattle.block.specs.declared.Verified.{Verified}
+use Rattle.verifying.specs.declared.Verified.{Verified}
 use Rattle.taperow.proofs.Record as T
 use Rattle.taperow.proofs.Record.Laws as T′
-use Rattle.block.proofs.Verified as S
-use Rattle.block.proofs.Verified.Laws as S′
+use Rattle.verifying.proofs.Verified as S
+use Rattle.verifying.proofs.Verified.Laws as S′
 use Rattle.lists.proofs.Filled.{fill-none}
-use Rattle.block.proofs.Rounds.{worked-none, after-none}
-use Rattle.block.proofs.verdict.verdict_before as before
-use Rattle.block.proofs.verdict.verdict_before.Symbol.{name as #before}
-use Rattle.block.proofs.verdict.rows_to_read as rows
-use Rattle.block.proofs.verdict.rows_to_read.Symbol.{name as #rows}
-use Rattle.block.proofs.verdict.next_verdict.Symbol.{name as #next}
+use Rattle.verifying.proofs.Rounds.{worked-none, after-none}
+use Rattle.verifying.proofs.verdict.verdict_before as before
+use Rattle.verifying.proofs.verdict.verdict_before.Symbol.{name as #before}
+use Rattle.verifying.proofs.verdict.rows_to_read as rows
+use Rattle.verifying.proofs.verdict.rows_to_read.Symbol.{name as #rows}
+use Rattle.verifying.proofs.verdict.next_verdict.Symbol.{name as #next}
 use Rattle.taperow.proofs.row_record.Symbol.{name as #row}
-use Rattle.block.proofs.verify.Code.Mir as code-mir
-use Rattle.block.proofs.verify.Proof.Ground.{Passed, word, sliceb, slicep, slicer, slicew, refe, slicee, Before, Rows}
-use Rattle.block.proofs.verify.Proof.Ground.{Row, Next, sb, sp, sr, sw, f, n, v₀, OB, OP, OW, a, vals, Post}
-use Rattle.block.proofs.verify.Proof.Callees.{to-before, goes-before, to-rows, goes-rows}
-use Rattle.block.proofs.verify.Proof.Exit.{typed-v}
-use Rattle.block.proofs.verify.Proof.Turns.{looped}
+use Rattle.verifying.proofs.verify.Code.Mir as code-mir
+use Rattle.verifying.proofs.verify.Proof.Ground.{Passed, word, sliceb, slicep, slicer, slicew, refe, slicee, Before, Rows}
+use Rattle.verifying.proofs.verify.Proof.Ground.{Row, Next, sb, sp, sr, sw, f, n, v₀, OB, OP, OW, a, vals, Post}
+use Rattle.verifying.proofs.verify.Proof.Callees.{to-before, goes-before, to-rows, goes-rows}
+use Rattle.verifying.proofs.verify.Proof.Exit.{typed-v}
+use Rattle.verifying.proofs.verify.Proof.Turns.{looped}
 
 module _ {M : Type 1} (𝓤 : URA M) (H : Heap 𝓤) (A : Atoms 𝓤) (W : Given 𝓤 H A) (mem : Memory → SProp 𝓤) (run : Routine → Fun 𝓤)
     (p : Passed) where

@@ -11,9 +11,9 @@ use Rattle.refusals.proofs.Checks.{here, later, Passes, done, clear, refused, p
 use Rattle.published.specs.Picture.{areaSize}
 use Rattle.layout.specs.Layout.{tapeQ, rowCount, isBlock}
 use Rattle.layout.proofs.Headers.{sized}
-use Rattle.block.specs.Verification.{checksFor}
-use Rattle.block.specs.Inside.{verdictBefore}
-use Rattle.block.specs.declared.Verified.the-variants.{Copied, Refused}
+use Rattle.verifying.specs.Verification.{checksFor}
+use Rattle.verifying.specs.Inside.{verdictBefore}
+use Rattle.verifying.specs.declared.Verified.the-variants.{Copied, Refused}
 
 -- the verdict before any row is read: each check by its number, and that none holds
 module _ (block payload : List ℕ) (records work : ℕ) where

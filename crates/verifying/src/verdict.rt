@@ -2,7 +2,7 @@
 ghost use mathlib.Core.Path.{_≡_};
 ghost use Prim.Native.Nat.{_+_, _<_, _^_};
 ghost use Rattle.layout.specs.Layout.{rowCount};
-ghost use Rattle.block.specs.Inside.{verdictBefore, rowsToRead, nextVerdict, totalOf};
+ghost use Rattle.verifying.specs.Inside.{verdictBefore, rowsToRead, nextVerdict, totalOf};
 use crate::Verified;
 use layout::is_block;
 use layout::row_count;

@@ -19,13 +19,13 @@ use Rattle.published.specs.Picture.{areaSize}
 use Rattle.voting.specs.Voting.{cleared}
 use Rattle.layout.specs.Layout.{tapeQ, rowCount}
 use Rattle.taperow.specs.Reading.{rowRecord}
-use Rattle.block.specs.Verification.{checksFor, verdictFrom}
-use Rattle.block.specs.Inside.{verdictBefore, rowsToRead, nextVerdict, totalOf}
+use Rattle.verifying.specs.Verification.{checksFor, verdictFrom}
+use Rattle.verifying.specs.Inside.{verdictBefore, rowsToRead, nextVerdict, totalOf}
 use Rattle.taperow.specs.declared.Record.{Record}
-use Rattle.block.specs.declared.Verified.{Verified}
-use Rattle.block.specs.declared.Verified.the-variants.{Copied, Differs, Unreadable, Refused}
-use Rattle.block.proofs.Verdicts.{byState}
-use Rattle.block.proofs.Start.{fit}
+use Rattle.verifying.specs.declared.Verified.{Verified}
+use Rattle.verifying.specs.declared.Verified.the-variants.{Copied, Differs, Unreadable, Refused}
+use Rattle.verifying.proofs.Verdicts.{byState}
+use Rattle.verifying.proofs.Start.{fit}
 use Rattle.taperow.proofs.Outcomes.{row-count-small}
 
 -- the work area after k rows: the first row clears its part, and it stays so

@@ -6,10 +6,10 @@ use mathlib.Core.List.{List}
 use Prim.Native.Nat.{ℕ, _+_}
 use lib.Dec.{eqb}
 use Rattle.refusals.specs.Numbers.{firstOf}
-use Rattle.block.specs.Verification.{checksFor}
+use Rattle.verifying.specs.Verification.{checksFor}
 use Rattle.taperow.specs.declared.Record.{Record}
-use Rattle.block.specs.declared.Verified.{Verified}
-use Rattle.block.specs.declared.Verified.the-variants.{Copied, Differs, Unreadable, Refused}
+use Rattle.verifying.specs.declared.Verified.{Verified}
+use Rattle.verifying.specs.declared.Verified.the-variants.{Copied, Differs, Unreadable, Refused}
 
 -- "The first that holds is given": the verdict before any row is read
 unfoldable pub verdictBefore : List ℕ → List ℕ → ℕ → ℕ → Verified

@@ -10,12 +10,12 @@ use denote.Ref.{now}
 use borrow.Author.Needs.{needs}
 use Rattle.lists.specs.Tables.{from, tab}
 use Rattle.taperow.specs.Reading.{rowRecord}
-use Rattle.block.specs.AsBytes.{recordBytes}
-use Rattle.block.proofs.Rounds.{worked, worked-next, after, after-next, Ready, ready}
-use Rattle.block.proofs.Copies.{copied-bytes-is-a-copy}
-use Rattle.block.proofs.Ends.{bytes-next, bytes-answer, bytes-records, bytes-work}
-use Rattle.block.proofs.verify_bytes.Statement.{statement}
-use Rattle.block.proofs.verify_bytes.Tie as tie
+use Rattle.verifying.specs.AsBytes.{recordBytes}
+use Rattle.verifying.proofs.Rounds.{worked, worked-next, after, after-next, Ready, ready}
+use Rattle.verifying.proofs.Copies.{copied-bytes-is-a-copy}
+use Rattle.verifying.proofs.Ends.{bytes-next, bytes-answer, bytes-records, bytes-work}
+use Rattle.verifying.proofs.verify_bytes.Statement.{statement}
+use Rattle.verifying.proofs.verify_bytes.Tie as tie
 
 abbrev Inv-loop : tie.InvT-loop
 Inv-loop block payload records₀ work₀ verdict₀ rows r₀ records work verdict r =

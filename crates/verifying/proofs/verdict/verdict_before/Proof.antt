@@ -8,10 +8,10 @@ use denote.Ref.{now}
 use borrow.Author.Tests.{not-true, not-false}
 use Rattle.layout.specs.Layout.{rowCount, isBlock}
 use Rattle.taperow.proofs.Tape.{area-is}
-use Rattle.block.proofs.Start.{before-9, before-10, before-11, before-6, before-none}
+use Rattle.verifying.proofs.Start.{before-9, before-10, before-11, before-6, before-none}
 use borrow.Author.Needs.{needs}
-use Rattle.block.proofs.verdict.verdict_before.Statement.{statement}
-use Rattle.block.proofs.verdict.verdict_before.Tie as tie
+use Rattle.verifying.proofs.verdict.verdict_before.Statement.{statement}
+use Rattle.verifying.proofs.verdict.verdict_before.Tie as tie
 
 is-block-requires : tie.Need-is-block-requires
 is-block-requires c κs = search needs

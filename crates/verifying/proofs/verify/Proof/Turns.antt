@@ -36,25 +36,25 @@ use denote.Triple.Clauses.{ensured, Lasts, lasts}
 use Rattle.published.specs.Picture.{areaSize}
 use Rattle.voting.specs.Voting.{cleared}
 use Rattle.taperow.specs.declared.Record.{Record}
-use Rattle.block.specs.declared.Verified.{Verified}
+use Rattle.verifying.specs.declared.Verified.{Verified}
 use Rattle.layout.specs.Layout.{tapeQ}
-use Rattle.block.specs.Inside.{nextVerdict}
+use Rattle.verifying.specs.Inside.{nextVerdict}
 use Rattle.taperow.proofs.Record as T
 use Rattle.taperow.proofs.Record.Laws as T′
-use Rattle.block.proofs.Verified as S
-use Rattle.block.proofs.Verified.Laws as S′
-use Rattle.block.proofs.Again.{LentAgain, lends-again, comes-back}
+use Rattle.verifying.proofs.Verified as S
+use Rattle.verifying.proofs.Verified.Laws as S′
+use Rattle.verifying.proofs.Again.{LentAgain, lends-again, comes-back}
 use Rattle.lists.proofs.Filled.{fill-next}
-use Rattle.block.proofs.Rounds.{worked-next, after-next}
-use Rattle.block.proofs.verdict.next_verdict as next
-use Rattle.block.proofs.verdict.next_verdict.Symbol.{name as #next}
+use Rattle.verifying.proofs.Rounds.{worked-next, after-next}
+use Rattle.verifying.proofs.verdict.next_verdict as next
+use Rattle.verifying.proofs.verdict.next_verdict.Symbol.{name as #next}
 use Rattle.taperow.proofs.row_record as row
 use Rattle.taperow.proofs.row_record.Symbol.{name as #row}
-use Rattle.block.proofs.verify.Code.Mir as code-mir
-use Rattle.block.proofs.verify.Proof.Ground.{Passed, word, sliceb, slicep, slicer, slicew, refe, slicee, Row, Next, sb, sp, sr, sw, xw, f, n, ys, ws, v₀, vs, OB, OP, OW, Post}
-use Rattle.block.proofs.verify.Proof.Standing.{Upto, Nearer, Nearer-wf, fits, here, kept, asked, further, step-fits, within, twice, at-end, last-is}
-use Rattle.block.proofs.verify.Proof.Callees.{to-row, goes-row, to-next, goes-next}
-use Rattle.block.proofs.verify.Proof.Exit.{typed-r, typed-v, exits}
+use Rattle.verifying.proofs.verify.Code.Mir as code-mir
+use Rattle.verifying.proofs.verify.Proof.Ground.{Passed, word, sliceb, slicep, slicer, slicew, refe, slicee, Row, Next, sb, sp, sr, sw, xw, f, n, ys, ws, v₀, vs, OB, OP, OW, Post}
+use Rattle.verifying.proofs.verify.Proof.Standing.{Upto, Nearer, Nearer-wf, fits, here, kept, asked, further, step-fits, within, twice, at-end, last-is}
+use Rattle.verifying.proofs.verify.Proof.Callees.{to-row, goes-row, to-next, goes-next}
+use Rattle.verifying.proofs.verify.Proof.Exit.{typed-r, typed-v, exits}
 
 -- the MIR after the first statement; `more` is what a turn does after its test
 abbrev rest : Body → Body

@@ -1,0 +1,4 @@
+pub mod Verification
+pub mod Inside
+pub mod AsBytes
+pub mod Copy
