@@ -26,7 +26,7 @@ use Rattle.verifying.proofs.Start.{fit}
 use Rattle.verifying.specs.declared.Verified.{Verified}
 use Rattle.verifying.specs.declared.Verified.the-variants.{Copied, Differs, Unreadable, Refused}
 use Rattle.verifying.proofs.Verified.{the-type}
-use Rattle.blocktext.specs.Report.{rowLines, verdictLine, lineAt, rowsTold}
+use Rattle.blocktext.specs.Report.{recordLines, verdictLine, lineAt, rowsTold}
 use Rattle.blocktext.proofs.Joined.{join-same}
 use Rattle.blocktext.proofs.RecordBytes.{state-of, count-of}
 
@@ -103,8 +103,8 @@ module _ (block payload blank work : List ℕ) where
         (decideChecks checks)
 
     -- the bytes' lines are the records' lines
-    lines-same : Passes checks → join (rowCount block) (lineAt records) ≡ rowLines (rowRecord block payload) (rowCount block)
-    unfolding lineAt rowLines verifyBytesRecords allRecords
+    lines-same : Passes checks → join (rowCount block) (lineAt records) ≡ recordLines (rowRecord block payload) (rowCount block)
+    unfolding lineAt recordLines verifyBytesRecords allRecords
     lines-same passing =
         let are = left ∙ passed (λ why. blank) _ passing in
         let f = rowRecord block payload in
@@ -114,7 +114,7 @@ module _ (block payload blank work : List ℕ) where
     -- rows and verdict together are the text
     pub text-is : join (rowsTold v (length payload)) (lineAt records) ++ verdictLine v
         ≡ firstOf checks (λ why. verdictLine (Refused why))
-        (rowLines (rowRecord block payload) (rowCount block) ++ verdictLine verdict)
+        (recordLines (rowRecord block payload) (rowCount block) ++ verdictLine verdict)
     unfolding verifyBytesAnswer join joinFrom
     text-is =
         ⊎-elim

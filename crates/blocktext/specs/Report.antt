@@ -36,8 +36,8 @@ unfoldable pub lineAt : List ℕ → ℕ → List ℕ
 lineAt records r = rowLine r (getD records (2 * r) 0) (getD records (2 * r + 1) 0)
 
 -- the lines of the first n rows
-unfoldable pub rowLines : (ℕ → Record) → ℕ → List ℕ
-rowLines f n = join n (λ r. rowLine r (f r .state) (f r .count))
+unfoldable pub recordLines : (ℕ → Record) → ℕ → List ℕ
+recordLines f n = join n (λ r. rowLine r (f r .state) (f r .count))
 
 -- how many rows there are lines of: the payload has 20 bytes a row where nothing is refused
 unfoldable pub rowsTold : Verified → ℕ → ℕ
@@ -57,7 +57,7 @@ verdictLine (Refused why) = ascii "refuse " ++ digits (refusalNumber why) ++ (10
 unfoldable pub checkText : List ℕ → List ℕ → List ℕ
 checkText block payload =
     firstOf (byteChecks block payload (replicate 2048 0) (replicate 1472 0)) (λ why. verdictLine (Refused why))
-    (rowLines (rowRecord block payload) (rowCount block) ++ verdictLine (verdictFrom 0 0 (allRecords block payload)))
+    (recordLines (rowRecord block payload) (rowCount block) ++ verdictLine (verdictFrom 0 0 (allRecords block payload)))
 
 -- blockwrite's line
 unfoldable pub writtenLine : Written → List ℕ

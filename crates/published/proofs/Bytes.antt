@@ -24,7 +24,7 @@ use Rattle.published.specs.Start.{Polynomials, width, upper, lower, f, g
 use Rattle.published.specs.Pairing.{degreeF, degreeG}
 use Rattle.published.specs.Steps.{messageOf}
 use Rattle.published.specs.Picture.{place, layout, cellNumber, picture}
-use Rattle.published.specs.Meaning.{Monomial, Occurs, partIn, valueWith}
+use Rattle.published.specs.Meaning.{PartMonomial, Occurs, partIn, valueWith}
 use Rattle.published.proofs.Widths.{degree-fits}
 use Rattle.published.proofs.Parts.{Parts, SameParts, ZeroAt, upper-cut, lower-cut}
 use Rattle.published.proofs.Reading.{row-below, row-part, row-power, each-polynomial}
@@ -57,7 +57,7 @@ module _ (𝓢 : Symbols) (q : ℕ) where
   partIn-past work p part j i h = rw (le-ltb i (width q) h, partIn)
 
   -- no monomial that occurs in the bytes has a power of x past the width
-  pub occurs-within : (work : List ℕ) (p : ℕ) (m : Monomial) → Occurs 𝓢 q (partIn 𝓢 q work p) m → m .x < width q
+  pub occurs-within : (work : List ℕ) (p : ℕ) (m : PartMonomial) → Occurs 𝓢 q (partIn 𝓢 q work p) m → m .x < width q
   occurs-within work p m o = elim (decLt (m .x) (width q)) [
     | yes l ↦ l
     | no l ↦ absurd (o .nonzero (partIn-past work p (m .part) (m .y) (m .x) (omega arith)))

@@ -13,7 +13,7 @@ use Rattle.algebra.specs.Symbols.{Symbols}
 use Rattle.algebra.specs.Weights.{weight}
 use Rattle.algebra.proofs.WeightLaws.{weight-inj}
 use Rattle.published.specs.Start.{startWeight, stepCount, lower}
-use Rattle.published.specs.Meaning.{weightAfter, Monomial, inUpper, inLower, weighs, Smaller, Occurs, Leading}
+use Rattle.published.specs.Meaning.{weightAfter, PartMonomial, inUpper, inLower, weighs, Smaller, Occurs, Leading}
 use Rattle.published.proofs.Parts.{Parts, SameParts, LeadsUpper, LeadsLower}
 use Rattle.published.proofs.PairNumbers.{sub-pos, sub-neg}
 
@@ -25,7 +25,7 @@ asymmetric (negsuc a) (pos b) h k = k
 asymmetric (negsuc a) (negsuc b) h k = omega (arith, ltb→lt b a h, ltb→lt a b k)
 
 -- nor are two monomials each smaller than the other
-smaller-once : (q : ℕ) (s : ℤ) (m n : Monomial) → Smaller q s m n → Smaller q s n m → ⊥
+smaller-once : (q : ℕ) (s : ℤ) (m n : PartMonomial) → Smaller q s m n → Smaller q s n m → ⊥
 unfolding Smaller
 smaller-once q s m n (inl h) (inl k) = asymmetric (weighs q s m) (weighs q s n) (h .lt) (k .lt)
 smaller-once q s m n (inl h) (inr k) = <ℤ-irrefl (subst (λ a. weighs q s m <ℤ a) (k .0) h)
@@ -73,7 +73,7 @@ unfolding weighs oneLess
 lower-weighs q s j k = refl
 
 -- what weighs less is smaller
-lighter : (q : ℕ) (s : ℤ) (m n : Monomial) {a b : ℕ} → weighs q s m ≡ oneLess a → weighs q s n ≡ oneLess b → a < b
+lighter : (q : ℕ) (s : ℤ) (m n : PartMonomial) {a b : ℕ} → weighs q s m ≡ oneLess a → weighs q s n ≡ oneLess b → a < b
     → Smaller q s m n
 unfolding Smaller
 lighter q s m n {a} {b} e e′ l = inl (rw (e, e′) (oneLess-order a b l))
@@ -88,7 +88,7 @@ module _ (𝓢 : Symbols) (q : ℕ) where
   open Symbols 𝓢 using (𝟘)
 
   -- a polynomial has one leading term at most
-  pub leading-unique : {s : ℤ} {F : Parts 𝓢 q} (m n : Monomial) → Leading 𝓢 q s F m → Leading 𝓢 q s F n → m ≡ n
+  pub leading-unique : {s : ℤ} {F : Parts 𝓢 q} (m n : PartMonomial) → Leading 𝓢 q s F m → Leading 𝓢 q s F n → m ≡ n
   leading-unique {s} m n a b =
       ⊎-elim (λ (e : m ≡ n). e) (λ (h : Smaller q s m n).
       ⊎-elim (λ (e : n ≡ m). sym e) (λ (k : Smaller q s n m). absurd (smaller-once q s m n h k)) (a .greatest n (b .occurs)))
@@ -150,7 +150,7 @@ module _ (𝓢 : Symbols) (q : ℕ) where
       among (suc (suc part)) b k hp hb nz = absurd (omega arith)
 
   -- the same polynomial has the same monomials
-  occurs-cong : {F G : Parts 𝓢 q} (m : Monomial) → SameParts 𝓢 q F G → Occurs 𝓢 q F m → Occurs 𝓢 q G m
+  occurs-cong : {F G : Parts 𝓢 q} (m : PartMonomial) → SameParts 𝓢 q F G → Occurs 𝓢 q F m → Occurs 𝓢 q G m
   occurs-cong m e o = record {
     inPart = o .inPart;
     inRow = o .inRow;
@@ -158,7 +158,7 @@ module _ (𝓢 : Symbols) (q : ℕ) where
   }
 
   -- and the same leading term
-  pub leading-cong : {s : ℤ} {F G : Parts 𝓢 q} (m : Monomial) → SameParts 𝓢 q F G → Leading 𝓢 q s F m → Leading 𝓢 q s G m
+  pub leading-cong : {s : ℤ} {F G : Parts 𝓢 q} (m : PartMonomial) → SameParts 𝓢 q F G → Leading 𝓢 q s F m → Leading 𝓢 q s G m
   leading-cong m e l = record {
     occurs = occurs-cong m e (l .occurs);
     greatest = λ n o. l .greatest n (occurs-cong n (record { at = λ part j i hp hj. sym (e .at part j i hp hj) }) o);

@@ -30,21 +30,21 @@ unfoldable pub weightAfter : ℕ → ℕ → ℤ
 weightAfter q t = subℕ (startWeight q) t
 
 -- a monomial of a polynomial: in the upper part (times z) or in the lower part, with its powers of y and x
-pub record Monomial : Type 0 where
+pub record PartMonomial : Type 0 where
   pub part : ℕ
   pub y : ℕ
   pub x : ℕ
 
 -- z x^i y^j
-abbrev pub inUpper : ℕ → ℕ → Monomial
+abbrev pub inUpper : ℕ → ℕ → PartMonomial
 inUpper j i = record { part = upper; y = j; x = i }
 
 -- x^i y^j
-abbrev pub inLower : ℕ → ℕ → Monomial
+abbrev pub inLower : ℕ → ℕ → PartMonomial
 inLower j i = record { part = lower; y = j; x = i }
 
 -- "Under weight s an upper monomial weighs s more"
-unfoldable pub weighs : ℕ → ℤ → Monomial → ℤ
+unfoldable pub weighs : ℕ → ℤ → PartMonomial → ℤ
 weighs q s m =
     elim (eqb (m .part) upper) [
       | true ↦ pos (weight q (m .y) (m .x)) +ℤ s
@@ -52,7 +52,7 @@ weighs q s m =
     ]
 
 -- m is smaller than n: it weighs less, or as much, and "equal weights go to the upper one"
-unfoldable pub Smaller : ℕ → ℤ → Monomial → Monomial → Type 0
+unfoldable pub Smaller : ℕ → ℤ → PartMonomial → PartMonomial → Type 0
 Smaller q s m n = (weighs q s m <ℤ weighs q s n) ⊎ ((weighs q s m ≡ weighs q s n) × (m .part ≡ lower) × (n .part ≡ upper))
 
 module _ (𝓢 : Symbols) (q : ℕ) where
@@ -61,15 +61,15 @@ module _ (𝓢 : Symbols) (q : ℕ) where
   open Symbols 𝓢 using (K, 𝟘, _⊕_, _⊖_, _⊗_, symbol)
 
   -- a monomial occurs in a polynomial, given by its parts, if its coefficient is not zero
-  pub record Occurs (F : ℕ → Fn 𝓢 q) (m : Monomial) : Type 0 where
+  pub record Occurs (F : ℕ → Fn 𝓢 q) (m : PartMonomial) : Type 0 where
     pub inPart : m .part ≤ lower
     pub inRow : m .y < q
     pub nonzero : F (m .part) (m .y) (m .x) ≢ 𝟘
 
   -- the leading term is the greatest monomial that occurs
-  pub record Leading (s : ℤ) (F : ℕ → Fn 𝓢 q) (m : Monomial) : Type 0 where
+  pub record Leading (s : ℤ) (F : ℕ → Fn 𝓢 q) (m : PartMonomial) : Type 0 where
     pub occurs : Occurs F m
-    pub greatest : (n : Monomial) → Occurs F n → (n ≡ m) ⊎ Smaller q s n m
+    pub greatest : (n : PartMonomial) → Occurs F n → (n ≡ m) ⊎ Smaller q s n m
 
   -- the parts of polynomial p in a work area, which has places for x^0 to x^(q²+2q-2)
   unfoldable pub partIn : List ℕ → ℕ → ℕ → Fn 𝓢 q
@@ -122,5 +122,5 @@ module _ (𝓢 : Symbols) (q : ℕ) where
     -- the leading degrees in x add up to n
     pub degrees : total q degreeG + total q degreeF ≡ pointCount q
     -- no degree in x passes q²+2q-2: not in the area, and not in what the rules gave to it
-    pub narrow : (p : ℕ) → p < 2 * q → (m : Monomial) → Occurs (partIn work p) m → m .x ≤ q * q + 2 * q - 2
+    pub narrow : (p : ℕ) → p < 2 * q → (m : PartMonomial) → Occurs (partIn work p) m → m .x ≤ q * q + 2 * q - 2
     pub nothingLost : NothingLost u (map symbol row) t

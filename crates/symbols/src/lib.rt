@@ -9,7 +9,7 @@ ghost use lib.ListN.{length, replicate};
 ghost use lib.Bits.{bitXor};
 ghost use Rattle.algebra.specs.Symbols.{power as powerOf};
 ghost use Rattle.symbols.specs.Rule.{isKnown, Known, symbols, number, symbol, anyBeyond};
-ghost use Rattle.symbols.specs.Tables.{productRow, after, HasProducts};
+ghost use Rattle.symbols.specs.Tables.{productRow, placesOn, HasProducts};
 ghost use Rattle.lists.specs.Tables.{put};
 
 // Whether there is a field for this q.
@@ -40,7 +40,7 @@ pub fn inverse(q: usize, a: u8) -> u8
 // The n bytes of a table from a start on, and zeros up to sixteen.
 fn part_of(table: &[u8], start: usize, n: usize) -> [u8; 16]
     requires { ⌜ (n ≤ 16) × (start + n ≤ length (now table)) ⌝ }
-    ensures { λ r. ⌜ r ≡ put (replicate 16 0) 0 n (after (now (table .entry)) start) ⌝ }
+    ensures { λ r. ⌜ r ≡ put (replicate 16 0) 0 n (placesOn (now (table .entry)) start) ⌝ }
 {
     let mut row = [0u8; 16];
     let mut i = 0;
@@ -55,7 +55,7 @@ fn part_of(table: &[u8], start: usize, n: usize) -> [u8; 16]
 // loop wherever it is used, while it takes a plain copy apart where the row of q = 2 can come in its place.
 fn sixteen_of(table: &[u8], start: usize) -> [u8; 16]
     requires { ⌜ start + 16 ≤ length (now table) ⌝ }
-    ensures { λ r. ⌜ r ≡ put (replicate 16 0) 0 16 (after (now (table .entry)) start) ⌝ }
+    ensures { λ r. ⌜ r ≡ put (replicate 16 0) 0 16 (placesOn (now (table .entry)) start) ⌝ }
 {
     let mut row = [0u8; 16];
     for i in 0..16 {

@@ -10,12 +10,12 @@ use denote.Ref.{now}
 use borrow.Author.Needs.{needs}
 use Rattle.lists.specs.Tables.{put}
 use Rattle.lists.proofs.Put.{put-none, put-next, put-out}
-use Rattle.symbols.specs.Tables.{after}
+use Rattle.symbols.specs.Tables.{placesOn}
 use Rattle.symbols.proofs.sixteen_of.Statement.{statement}
 use Rattle.symbols.proofs.sixteen_of.Tie as tie
 
 abbrev Inv-loop : tie.InvT-loop
-Inv-loop table start row₀ i₀ row i = (i ≤ 16) × (row ≡ put (replicate 16 0) 0 i (after table start))
+Inv-loop table start row₀ i₀ row i = (i ≤ 16) × (row ≡ put (replicate 16 0) 0 i (placesOn table start))
 
 abbrev μ-loop : tie.MeasureT-loop
 μ-loop table start row₀ i₀ row i = 16 - i
@@ -46,11 +46,11 @@ added : (f : ℕ → ℕ) (i a : ℕ) → i < 16 → bitXor (getD (put (replicat
 added f i a h = ap (λ x. bitXor x a) (put-out (replicate 16 0) 0 i f i 0 (inr (omega arith)) ∙ getD-replicate 16 i 0 0 h)
 
 loop-again : tie.Need-loop-again Inv-loop μ-loop
-unfolding after
+unfolding placesOn
 loop-again c =
     let s = c .before .before .loop in
     let start = c .before .before .before in
-    let part = after (now (start .args .table)) (start .args .start) in
+    let part = placesOn (now (start .args .table)) (start .args .start) in
     (search needs, rw (s .inv .1) (put-next (replicate 16 0) (s .i) part _ (added part (s .i) (part (s .i)) (omega arith))))
 
 returns : tie.Need-returns Inv-loop μ-loop
