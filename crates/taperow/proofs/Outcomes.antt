@@ -3,7 +3,7 @@
 use mathlib.Core.Path.{_≡_, refl, sym, _∙_}
 use mathlib.Core.Bool.{Bool, true, false, true≢false, false≢true}
 use mathlib.Core.List.{List}
-use Prim.Native.Nat.{ℕ, _+_, _*_, _≤_, zero-le}
+use Prim.Native.Nat.{ℕ, _*_, _≤_, zero-le}
 use native.Mathlib.Omega.{arith}
 use lib.Dec.{leb}
 use lib.ListN.{take, drop}
@@ -18,10 +18,10 @@ use Rattle.decoder.specs.Decoding.{judgement, decoded, ifAccepted}
 use Rattle.voting.specs.Voting.{voted}
 use Rattle.decoder.proofs.Decoded.{the-type}
 use Rattle.layout.specs.Packing.{unpacked}
-use Rattle.layout.specs.Layout.{tapeQ, tapeU, rowLength, messageLength, blockRow}
+use Rattle.layout.specs.Layout.{tapeQ, tapeU, messageLength, blockRow}
 use Rattle.lists.specs.Same.{sameList}
-use Rattle.taperow.specs.Reading.{outcome, rowRecord, packedRecord}
-use Rattle.layout.proofs.Reading.{row-part, message-part}
+use Rattle.taperow.specs.Reading.{outcome, rowRecord, judgedRecord}
+use Rattle.layout.proofs.Reading.{message-part}
 use Rattle.taperow.proofs.Tape.{reach-is}
 
 -- an acceptance has the true count, which is within reach
@@ -67,42 +67,40 @@ unfolding outcome
 outcome-other count true is = absurd (true≢false is)
 outcome-other count false is = refl
 
--- the record of a row's bytes, by what reading them answered and by whether the message read is the payload's
+-- the record of a row's symbols, by what reading them answered and by whether the message read is the payload's
 module _ (row original message old : List ℕ) (answer : Decoded)
-    (answered : answer ≡ decoded tapeQ tapeU (unpacked row rowLength))
-    (written : message ≡ ifAccepted answer (voted tapeQ tapeU (unpacked row rowLength)) old) where
+    (answered : answer ≡ decoded tapeQ tapeU row) (written : message ≡ ifAccepted answer (voted tapeQ tapeU row) old) where
   -- not accepted
-  pub packed-unreadable : tagOf the-type answer ≡ 1 → record { state = 2; count = 0 } ≡ packedRecord row original
-  unfolding packedRecord
-  packed-unreadable tag = rw (← answered) (outcome-refused answer _ tag)
+  pub judged-unreadable : tagOf the-type answer ≡ 1 → record { state = 2; count = 0 } ≡ judgedRecord row original
+  unfolding judgedRecord
+  judged-unreadable tag = rw (← answered) (outcome-refused answer _ tag)
 
   module _ (count : ℕ) (accepted : answer ≡ Accepted count) where
     -- the message read is the votes
-    read : message ≡ voted tapeQ tapeU (unpacked row rowLength)
+    read : message ≡ voted tapeQ tapeU row
     unfolding ifAccepted
     read = written ∙ (rw accepted)
 
     -- accepted, and the same message
-    pub packed-equal : sameList message (unpacked original messageLength) ≡ true
-        → record { state = 0; count = count } ≡ packedRecord row original
-    unfolding packedRecord
-    packed-equal same = rw (← answered, accepted, ← read) (outcome-equal count _ same)
+    pub judged-equal : sameList message (unpacked original messageLength) ≡ true
+        → record { state = 0; count = count } ≡ judgedRecord row original
+    unfolding judgedRecord
+    judged-equal same = rw (← answered, accepted, ← read) (outcome-equal count _ same)
 
     -- accepted, and another message
-    pub packed-other : sameList message (unpacked original messageLength) ≡ false
-        → record { state = 1; count = count } ≡ packedRecord row original
-    unfolding packedRecord
-    packed-other same = rw (← answered, accepted, ← read) (outcome-other count _ same)
+    pub judged-other : sameList message (unpacked original messageLength) ≡ false
+        → record { state = 1; count = count } ≡ judgedRecord row original
+    unfolding judgedRecord
+    judged-other same = rw (← answered, accepted, ← read) (outcome-other count _ same)
 
     -- the count of an acceptance is within reach
-    pub packed-reached : count ≤ 9
-    packed-reached = accepted-within (unpacked row rowLength) count (sym answered ∙ accepted) .reached
+    pub judged-reached : count ≤ 9
+    judged-reached = accepted-within row count (sym answered ∙ accepted) .reached
 
--- the record of row r is that of its bytes where they stand
-pub row-record-part : (block payload : List ℕ) (r : ℕ)
-    → packedRecord (take 32 (drop (8 + 32 * r) block)) (take 20 (drop (20 * r) payload)) ≡ rowRecord block payload r
-unfolding packedRecord rowRecord
-row-record-part block payload r = rw (← row-part block r, ← message-part payload r)
+-- the record of row r is that of its symbols and of the bytes of its message where they stand
+pub row-judged : (block payload : List ℕ) (r : ℕ) → judgedRecord (blockRow block r) (take 20 (drop (20 * r) payload)) ≡ rowRecord block payload r
+unfolding judgedRecord rowRecord
+row-judged block payload r = rw (← message-part payload r)
 
 -- no outcome has a count above the reach
 outcome-small : (answer : Decoded) (equal : Bool) → ((count : ℕ) → answer ≡ Accepted count → count ≤ 9)

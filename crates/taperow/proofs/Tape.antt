@@ -19,9 +19,7 @@ use Rattle.decoder.specs.declared.Decoded.the-variants.{Refused}
 use Rattle.voting.specs.Voting.{voted, cleared}
 use Rattle.decoder.specs.Decoding.{decoded, decodeChecks, decodeAnswer, decodeWork, ifAccepted, decodeMessage}
 use Rattle.decoder.proofs.DecodeChecks.{passes as no-check}
-use Rattle.layout.specs.Packing.{unpacked}
-use Rattle.layout.specs.Layout.{tapeQ, tapeU, rowLength}
-use Rattle.layout.proofs.Reading.{length-unpacked}
+use Rattle.layout.specs.Layout.{tapeQ, tapeU}
 
 -- "The work area needs 4q²(q²+2q-1) symbols"
 pub area-is : areaSize tapeQ ≡ 1472
@@ -85,23 +83,21 @@ module _ (row work message corrected : List ℕ) (full : length row ≡ 64) (sym
       (ap (λ (l : List ℕ). ifAccepted (decoded tapeQ tapeU row) l message)
       (rw (dimension-is, drop-of-length-le message {i = 40} (omega arith)) (append-nil (voted tapeQ tapeU row))))
 
--- what decoding 64 symbols that were unpacked leaves
-pub record ReadRow (packed work message : List ℕ) (answer : Decoded) (work′ message′ : List ℕ) : Type 0 where
-  pub answered : answer ≡ decoded tapeQ tapeU (unpacked packed rowLength)
+-- what decoding the 64 symbols of a row leaves
+pub record ReadRow (row work message : List ℕ) (answer : Decoded) (work′ message′ : List ℕ) : Type 0 where
+  pub answered : answer ≡ decoded tapeQ tapeU row
   pub emptied : work′ ≡ cleared (areaSize tapeQ) work
-  pub written : message′ ≡ ifAccepted answer (voted tapeQ tapeU (unpacked packed rowLength)) message
+  pub written : message′ ≡ ifAccepted answer (voted tapeQ tapeU row) message
 
--- all that decoding a row of bytes leaves
-pub reads-row : (packed symbols work message corrected : List ℕ) (answer : Decoded) (work′ message′ : List ℕ)
-    → symbols ≡ unpacked packed rowLength → anyBeyond tapeQ symbols ≡ false → areaSize tapeQ ≤ length work
-    → length message ≡ 40 → length corrected ≡ 64 → answer ≡ decodeAnswer tapeQ tapeU symbols work message corrected
-    → work′ ≡ decodeWork tapeQ tapeU symbols work message corrected
-    → message′ ≡ decodeMessage tapeQ tapeU symbols work message corrected → ReadRow packed work message answer work′ message′
-reads-row packed symbols work message corrected answer work′ message′ is below room places rest a w m =
-    let full : length symbols ≡ 64 = ap length is ∙ length-unpacked packed rowLength in
-    let a′ = a ∙ answers symbols work message corrected full below room places rest in
+pub reads-row : (row work message corrected : List ℕ) (answer : Decoded) (work′ message′ : List ℕ)
+    → length row ≡ 64 → anyBeyond tapeQ row ≡ false → areaSize tapeQ ≤ length work
+    → length message ≡ 40 → length corrected ≡ 64 → answer ≡ decodeAnswer tapeQ tapeU row work message corrected
+    → work′ ≡ decodeWork tapeQ tapeU row work message corrected
+    → message′ ≡ decodeMessage tapeQ tapeU row work message corrected → ReadRow row work message answer work′ message′
+reads-row row work message corrected answer work′ message′ full below room places rest a w m =
+    let a′ = a ∙ answers row work message corrected full below room places rest in
     record {
-      answered = rw is at a′;
-      emptied = w ∙ clears symbols work message corrected full below room places rest;
-      written = rw (a′, ← is) (m ∙ writes symbols work message corrected full below room places rest);
+      answered = a′;
+      emptied = w ∙ clears row work message corrected full below room places rest;
+      written = rw a′ (m ∙ writes row work message corrected full below room places rest);
     }

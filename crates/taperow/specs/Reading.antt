@@ -10,7 +10,7 @@ use Rattle.decoder.specs.declared.Decoded.the-variants.{Accepted, Refused}
 use Rattle.voting.specs.Voting.{voted}
 use Rattle.decoder.specs.Decoding.{decoded}
 use Rattle.layout.specs.Packing.{unpacked}
-use Rattle.layout.specs.Layout.{tapeQ, tapeU, rowLength, messageLength, blockRow, payloadRow}
+use Rattle.layout.specs.Layout.{tapeQ, tapeU, messageLength, blockRow, payloadRow}
 use Rattle.taperow.specs.declared.Record.{Record}
 
 -- state 0 for the same message, 1 for another one, 2 where nothing was accepted; with an acceptance goes its count, else 0
@@ -24,8 +24,6 @@ rowRecord block payload r =
     let row = blockRow block r in
     outcome (decoded tapeQ tapeU row) (sameList (voted tapeQ tapeU row) (payloadRow payload r))
 
--- the record of a row's 32 bytes and its payload's 20, read where they stand
-unfoldable pub packedRecord : List ℕ → List ℕ → Record
-packedRecord row original =
-    let symbols = unpacked row rowLength in
-    outcome (decoded tapeQ tapeU symbols) (sameList (voted tapeQ tapeU symbols) (unpacked original messageLength))
+-- the record of a row's symbols, gathered, and of the 20 bytes of its message in the payload
+unfoldable pub judgedRecord : List ℕ → List ℕ → Record
+judgedRecord row original = outcome (decoded tapeQ tapeU row) (sameList (voted tapeQ tapeU row) (unpacked original messageLength))

@@ -1,14 +1,17 @@
-// The record of one row: its bytes are unpacked where they stand, decoded, and the message is compared with the payload's.
+// The record of one row: its symbols are gathered from where they stand, and judged: decoded, and the message compared with the
+// payload's.
 ghost use mathlib.Core.Path.{_≡_};
 ghost use Prim.Native.Nat.{_+_, _*_, _≤_};
 ghost use lib.ListN.{length};
+ghost use mathlib.Core.Bool.{false};
+ghost use Rattle.symbols.specs.Rule.{anyBeyond};
 ghost use Rattle.published.specs.Picture.{areaSize};
 ghost use Rattle.voting.specs.Voting.{voted, cleared};
 ghost use Rattle.decoder.specs.Decoding.{decoded, ifAccepted};
 ghost use Rattle.layout.specs.Packing.{unpacked};
-ghost use Rattle.layout.specs.Layout.{tapeQ, tapeU, rowLength, messageLength};
+ghost use Rattle.layout.specs.Layout.{tapeQ, tapeU, messageLength, blockRow};
 ghost use Rattle.lists.specs.Same.{sameList};
-ghost use Rattle.taperow.specs.Reading.{rowRecord, packedRecord};
+ghost use Rattle.taperow.specs.Reading.{rowRecord, judgedRecord};
 use crate::EQUAL;
 use crate::OTHER_MESSAGE;
 use crate::Record;
@@ -16,18 +19,25 @@ use crate::UNREADABLE;
 use decoder::Decoded;
 use layout::unpack;
 
-// A row's 32 bytes are unpacked and decoded.
-fn read_row(row: &[u8], work: &mut [u8], message: &mut [u8]) -> Decoded
-    requires { ⌜ (length (now row) ≡ 32) × (areaSize tapeQ ≤ length (now work)) × (length (now message) ≡ 40) ⌝ }
-    ensures answered { λ r. ⌜ r ≡ decoded tapeQ tapeU (unpacked (now (row .entry)) rowLength) ⌝ }
-    ensures work_left { λ r. ⌜ now (work .exit) ≡ cleared (areaSize tapeQ) (now (work .entry)) ⌝ }
-    ensures message_left { λ r. ⌜ now (message .exit)
-        ≡ ifAccepted r (voted tapeQ tapeU (unpacked (now (row .entry)) rowLength)) (now (message .entry)) ⌝ }
+// The symbols of row r of a block, gathered from where they stand: byte 8 + 32r on.
+fn gather_row(block: &[u8], r: usize, symbols: &mut [u8])
+    requires { ⌜ (40 + 32 * r ≤ length (now block)) × (length (now symbols) ≡ 64) ⌝ }
+    ensures { λ _. ⌜ now (symbols .exit) ≡ blockRow (now (block .entry)) r ⌝ }
+    ensures { λ _. ⌜ anyBeyond tapeQ (now (symbols .exit)) ≡ false ⌝ }
 {
-    let mut symbols = [0u8; 64];
-    unpack(row, &mut symbols);
+    unpack(&block[8 + 32 * r..40 + 32 * r], symbols);
+}
+
+// Decodes the 64 symbols of a row.
+fn read_row(symbols: &[u8], work: &mut [u8], message: &mut [u8]) -> Decoded
+    requires { ⌜ (length (now symbols) ≡ 64) × (anyBeyond tapeQ (now symbols) ≡ false) ⌝ }
+    requires { ⌜ (areaSize tapeQ ≤ length (now work)) × (length (now message) ≡ 40) ⌝ }
+    ensures answered { λ r. ⌜ r ≡ decoded tapeQ tapeU (now (symbols .entry)) ⌝ }
+    ensures work_left { λ r. ⌜ now (work .exit) ≡ cleared (areaSize tapeQ) (now (work .entry)) ⌝ }
+    ensures message_left { λ r. ⌜ now (message .exit) ≡ ifAccepted r (voted tapeQ tapeU (now (symbols .entry))) (now (message .entry)) ⌝ }
+{
     let mut corrected = [0u8; 64];
-    decoder::decode(4, 45, &symbols, work, message, &mut corrected)
+    decoder::decode(4, 45, symbols, work, message, &mut corrected)
 }
 
 // Whether two lists have the same symbols.
@@ -55,14 +65,15 @@ fn is_original(message: &[u8], original: &[u8]) -> bool
     same_symbols(message, &expected)
 }
 
-// The record of a row's 32 bytes and its payload's 20.
-fn packed_record(row: &[u8], original: &[u8], work: &mut [u8]) -> Record
-    requires { ⌜ (length (now row) ≡ 32) × (length (now original) ≡ 20) × (areaSize tapeQ ≤ length (now work)) ⌝ }
-    ensures outcome { λ r. ⌜ r ≡ packedRecord (now (row .entry)) (now (original .entry)) ⌝ }
+// Judges a row's symbols: its record, against the 20 bytes of its message in the payload.
+fn judge_row(symbols: &[u8], original: &[u8], work: &mut [u8]) -> Record
+    requires { ⌜ (length (now symbols) ≡ 64) × (anyBeyond tapeQ (now symbols) ≡ false) ⌝ }
+    requires { ⌜ (length (now original) ≡ 20) × (areaSize tapeQ ≤ length (now work)) ⌝ }
+    ensures outcome { λ r. ⌜ r ≡ judgedRecord (now (symbols .entry)) (now (original .entry)) ⌝ }
     ensures work_left { λ r. ⌜ now (work .exit) ≡ cleared (areaSize tapeQ) (now (work .entry)) ⌝ }
 {
     let mut message = [0u8; 40];
-    let answer = read_row(row, work, &mut message);
+    let answer = read_row(symbols, work, &mut message);
     let Decoded::Accepted(count) = answer else {
         return Record {
             state: UNREADABLE,
@@ -86,9 +97,7 @@ pub fn row_record(block: &[u8], payload: &[u8], r: usize, work: &mut [u8]) -> Re
     ensures { λ x. ⌜ (x ≡ rowRecord (now (block .entry)) (now (payload .entry)) r)
         × (now (work .exit) ≡ cleared (areaSize tapeQ) (now (work .entry))) ⌝ }
 {
-    packed_record(
-        &block[8 + 32 * r..40 + 32 * r],
-        &payload[20 * r..20 + 20 * r],
-        work,
-    )
+    let mut symbols = [0u8; 64];
+    gather_row(block, r, &mut symbols);
+    judge_row(&symbols, &payload[20 * r..20 + 20 * r], work)
 }

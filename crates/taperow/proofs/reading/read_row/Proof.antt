@@ -7,17 +7,8 @@ use borrow.Author.Needs.{needs}
 use Rattle.taperow.proofs.reading.read_row.Statement.{statement}
 use Rattle.taperow.proofs.reading.read_row.Tie as tie
 
-slice-aggregate-unpack : tie.Need-slice-aggregate-unpack
-slice-aggregate-unpack c = search needs
-
-unpack-requires : tie.Need-unpack-requires
-unpack-requires c κs = search needs
-
 slice-aggregate-decode : tie.Need-slice-aggregate-decode
 slice-aggregate-decode c = search needs
-
-slice-aggregate-decode-2 : tie.Need-slice-aggregate-decode-2
-slice-aggregate-decode-2 c = search needs
 
 decode-requires : tie.Need-decode-requires
 decode-requires c κs = search needs
@@ -30,23 +21,17 @@ same-length-2 c = search needs
 
 returns : tie.Need-returns
 returns c =
-    let d = c .before .before .before .before .before in
-    let u = d .before .before .before .before .before .before in
-    let s = u .before .before .before .before .before in
-    let r = reads-row (now (s .args .row)) _ (now (s .args .work)) (now (s .args .message)) _ _ _ _ (u .unpack .ensures .0)
-    (u .unpack .ensures .1) (s .pre .1) (s .pre .2) refl (d .decode .ensures .0) (d .decode .ensures .1 .0)
-    (d .decode .ensures .1 .1 .0)
-    in
-    (r .answered, (r .emptied, r .written))
+    let start = c .before .before .before .before .before .before .before .before .before .before .before .before in
+    let done = c .before .before .before .before .before .decode .ensures in
+    let row = reads-row (now (start .args .symbols)) (now (start .args .work)) (now (start .args .message)) _ _ _ _ (start .pre .0 .0)
+    (start .pre .0 .1) (start .pre .1 .0) (start .pre .1 .1) refl (done .0) (done .1 .0) (done .1 .1 .0) in
+    (row .answered, (row .emptied, row .written))
 
 pub read-row-spec : {M : Type 1} → statement M
 read-row-spec =
     tie.close
     (tie.spec
-    slice-aggregate-unpack
-    unpack-requires
     slice-aggregate-decode
-    slice-aggregate-decode-2
     decode-requires
     same-length
     same-length-2

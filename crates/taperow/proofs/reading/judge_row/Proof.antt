@@ -1,13 +1,13 @@
--- `taperow::reading::packed_record` meets its contract, case by case.
+-- `taperow::reading::judge_row` meets its contract, case by case.
 -- Assumes nothing.
 use mathlib.Core.Path.{sym, _∙_}
 use mathlib.Core.Logic.{⊎-elim}
 use mathlib.Core.List.{[]}
 use native.Mathlib.Omega.{arith}
-use Rattle.taperow.proofs.Outcomes.{packed-unreadable, packed-equal, packed-other, packed-reached}
+use Rattle.taperow.proofs.Outcomes.{judged-unreadable, judged-equal, judged-other, judged-reached}
 use borrow.Author.Needs.{needs}
-use Rattle.taperow.proofs.reading.packed_record.Statement.{statement}
-use Rattle.taperow.proofs.reading.packed_record.Tie as tie
+use Rattle.taperow.proofs.reading.judge_row.Statement.{statement}
+use Rattle.taperow.proofs.reading.judge_row.Tie as tie
 
 slice-aggregate-read-row : tie.Need-slice-aggregate-read-row
 slice-aggregate-read-row c = search needs
@@ -27,7 +27,7 @@ same-length c = search needs
 returns : tie.Need-returns
 returns c =
     let d = c .before .before .before .before .before in (
-      packed-unreadable _ _ _ _ _ (d .read-row .ensures .0) (d .read-row .ensures .1 .1) (c .before .match .keys2),
+      judged-unreadable _ _ _ _ _ (d .read-row .ensures .0) (d .read-row .ensures .1 .1) (c .before .match .keys2),
       d .read-row .ensures .1 .0,
     )
 
@@ -41,7 +41,7 @@ cast-t16 : tie.Need-cast-t16
 cast-t16 c =
     let a = c .before .before .before .before in
     let d = a .before .before .before .before .before in
-    omega (arith, packed-reached _ [] _ _ _ (d .read-row .ensures .0) (d .read-row .ensures .1 .1) _ (a .answer .given .1))
+    omega (arith, judged-reached _ [] _ _ _ (d .read-row .ensures .0) (d .read-row .ensures .1 .1) _ (a .answer .given .1))
 
 same-length-2 : tie.Need-same-length-2
 same-length-2 c = search needs
@@ -51,16 +51,16 @@ returns-2 c =
     let a = c .before .before .before .before in
     let d = a .before .before .before .before .before in (
       ⊎-elim
-          (λ w. rw (w .1) (packed-equal _ _ _ _ _ (d .read-row .ensures .0) (d .read-row .ensures .1 .1) _ (a .answer .given .1)
+          (λ w. rw (w .1) (judged-equal _ _ _ _ _ (d .read-row .ensures .0) (d .read-row .ensures .1 .1) _ (a .answer .given .1)
           (sym (c .before .is-original .ensures) ∙ w .0 .taken)))
-          (λ w. rw (w .1) (packed-other _ _ _ _ _ (d .read-row .ensures .0) (d .read-row .ensures .1 .1) _ (a .answer .given .1)
+          (λ w. rw (w .1) (judged-other _ _ _ _ _ (d .read-row .ensures .0) (d .read-row .ensures .1 .1) _ (a .answer .given .1)
           (sym (c .before .is-original .ensures) ∙ w .0 .left)))
           (c .if1 .came),
       d .read-row .ensures .1 .0,
     )
 
-pub packed-record-spec : {M : Type 1} → statement M
-packed-record-spec =
+pub judge-row-spec : {M : Type 1} → statement M
+judge-row-spec =
     tie.close
     (tie.spec
     slice-aggregate-read-row
