@@ -4,8 +4,8 @@ pub mod Parts
 pub mod Reading
 pub mod Simultaneous
 pub mod Degrees
-pub mod PairNumbers
 pub mod VotedWeights
+pub mod PairNumbers
 pub mod PairSymbols
 pub mod PairStep
 pub mod InPlace
