@@ -7,6 +7,7 @@ pub mod Degrees
 pub mod VotedWeights
 pub mod PairNumbers
 pub mod PairSymbols
+pub mod Best
 pub mod PairStep
 pub mod InPlace
 pub mod Substitution
