@@ -4,9 +4,10 @@ pub mod Parts
 pub mod Reading
 pub mod Simultaneous
 pub mod Degrees
-pub mod PairNumbers
 pub mod VotedWeights
+pub mod PairNumbers
 pub mod PairSymbols
+pub mod Best
 pub mod PairStep
 pub mod InPlace
 pub mod Substitution

@@ -2,7 +2,7 @@
 -- x^k y^i' in the lower part of f_i, is μ_i(w - w_i). So w_i = w says that β is zero, and r = β/ν cancels it.
 use mathlib.Core.Path.{_≡_, sym, ap, ap₂, _∙_}
 use mathlib.Core.Logic.{_≢_, inl, inr, ⊎-elim}
-use mathlib.Core.Bool.{Bool, true, false, cond}
+use mathlib.Core.Bool.{true, false}
 use Prim.Native.Nat.{ℕ, suc, _+_, _*_, _-_, _≤_, _<_}
 use native.Mathlib.Omega.{arith}
 use native.Mathlib.Decide.{decLt}
@@ -23,7 +23,7 @@ use Rattle.published.proofs.Widths.{degree-fits}
 use Rattle.published.proofs.Parts.{Parts, Narrow, LeadsUpper, LeadsLower}
 use Rattle.published.proofs.Parts.{upper-cut, lower-cut, upper-narrow, lower-narrow}
 use Rattle.published.proofs.PairNumbers.{one-part, pairing-paired, pairing-weights, k-whole}
-use Rattle.published.proofs.PairSymbols.{vote-placed, unvoted, w-whole, μ-whole}
+use Rattle.published.proofs.PairSymbols.{vote-placed, unvoted, w-voted, μ-voted, w-unvoted, μ-unvoted}
 use Rattle.published.proofs.InPlace.{InPlace}
 use Rattle.published.proofs.Substitution.{Substitutable, substituted-f, substituted-g}
 use Rattle.published.proofs.Substitution.{substituted-looked, substituted-top}
@@ -152,28 +152,24 @@ module _ {𝓢 : Symbols} {q : ℕ} (𝓛 : Laws 𝓢 q) where
         unfolding leadF
         top-ne = led .leadF i hi .top
 
-        -- μ_i in the two kinds of steps
-        μ-is : (t : Bool) → isVoted q u s ≡ t → P .μ ≡ cond t (leadF 𝓢 q S i) 𝟙
-        μ-is t e = μ-whole 𝓢 q u s S i k is-whole ∙ ap (λ n. cond n (leadF 𝓢 q S i) 𝟙) e
-
-        -- and w_i
-        w-is : (t : Bool) → isVoted q u s ≡ t → P .w ≡ cond t (minus b ⊗ inverse (leadF 𝓢 q S i)) (minus b)
-        unfolding b
-        w-is t e = w-whole 𝓢 q u s S i k is-whole ∙ ap (λ n. cond n (minus b ⊗ inverse (leadF 𝓢 q S i)) (minus b)) e
-
         -- nor is μ_i
         μ-ne : P .μ ≢ 𝟘
-        μ-ne z = decided (isVoted q u s) (λ e. top-ne (sym (μ-is true e) ∙ z)) (λ e. 𝓛 .one-ne-zero (sym (μ-is false e) ∙ z))
+        μ-ne z =
+            decided (isVoted q u s)
+            (λ v. top-ne (sym (μ-voted 𝓢 q u s S i v k is-whole) ∙ z))
+            (λ v. 𝓛 .one-ne-zero (sym (μ-unvoted 𝓢 q u s S i v) ∙ z))
 
         -- μ_i(w - w_i) is β
         gap-is : P .μ ⊗ (w ⊖ P .w) ≡ F lower j k
         unfolding b voteOn
         gap-is =
             decided (isVoted q u s)
-            (λ e. ap₂ (λ m v. m ⊗ (w ⊖ v)) (μ-is true e) (w-is true e) ∙ voted-gap b w (leadF 𝓢 q S i) top-ne)
-            (λ e.
-            let zero-vote = unvoted 𝓢 q u s (pairings 𝓢 q u s S) e in
-            ap₂ (λ m v. m ⊗ (w ⊖ v)) (μ-is false e) (w-is false e) ∙ unvoted-gap b w (leadF 𝓢 q S i) zero-vote)
+            (λ v.
+            ap₂ (λ m x. m ⊗ (w ⊖ x)) (μ-voted 𝓢 q u s S i v k is-whole) (w-voted 𝓢 q u s S i v k is-whole)
+            ∙ voted-gap b w (leadF 𝓢 q S i) top-ne)
+            (λ v.
+            ap₂ (λ m x. m ⊗ (w ⊖ x)) (μ-unvoted 𝓢 q u s S i v) (w-unvoted 𝓢 q u s S i v k is-whole)
+            ∙ unvoted-gap b w (leadF 𝓢 q S i) (unvoted 𝓢 q u s (pairings 𝓢 q u s S) v))
             ∙ sym (substituted-looked 𝓛 s w S vote-substitutable led i j k hi partner-below heavy)
 
         -- r cancels β against the leading coefficient of g_j

@@ -14,7 +14,9 @@ use Rattle.algebra.proofs.Partners.{partner, partnerBack, partner-partnerBack, 
 use Rattle.algebra.proofs.Partners.{Paired, paired, pair-remainder, pair-quotient, pair-nonnegative}
 use Rattle.published.specs.Start.{Polynomials}
 use Rattle.published.specs.Pairing.{Pairing, pairing, degreeF, degreeG, partnerOf, kOf}
-use Rattle.published.specs.Pairing.{isNegative, positivePart, negativePart}
+use Rattle.published.specs.Pairing.{isVoted, isNegative, positivePart, negativePart}
+use Rattle.published.proofs.Tests.{decided}
+use Rattle.published.proofs.VotedWeights.{voted-nongap}
 
 -- a - b is not negative
 pub sub-pos : (a b : ℕ) → b ≤ a → subℕ a b ≡ pos (a - b)
@@ -111,10 +113,10 @@ module _ (𝓢 : Symbols) (q : ℕ) (u s : ℕ) (S : Polynomials 𝓢 q) where
     pub voted-whole : nongap q s ≡ true → P .partner ≤ A + i + pairing-paired .t
     voted-whole n = pair-nonnegative q pairing-paired n A
 
-    -- the same as a sign
-    pub voted-k : nongap q s ≡ true → isNegative (P .k) ≡ false
-    unfolding isNegative
-    voted-k n = rw (k-whole (voted-whole n))
+    -- so a negative k says that the step is not voted
+    pub negative-unvoted : A + i + pairing-paired .t < P .partner → isVoted q u s ≡ false
+    negative-unvoted h =
+        decided (isVoted q u s) (λ v. absurd (omega (arith, voted-whole (voted-nongap q u s v)))) (λ v. v)
 
   -- the pairing is a permutation: different i have different partners
   pub pairing-apart : (i i′ : ℕ) → i < q → i′ < q → pairing 𝓢 q u s S i .partner ≡ pairing 𝓢 q u s S i′ .partner → i ≡ i′

@@ -1,6 +1,6 @@
 -- Document 01's rule for a pair, after the substitution, is a step of the theory.
 use mathlib.Core.Path.{_≡_, sym, ap, _∙_}
-use mathlib.Core.Bool.{true, false, true≢false}
+use mathlib.Core.Bool.{true, false}
 use mathlib.Core.List.{[]}
 use Prim.Native.Nat.{ℕ, suc, _+_, _≤_, _<_}
 use native.Mathlib.Omega.{arith}
@@ -23,8 +23,7 @@ use Rattle.published.proofs.Parts.{Parts, SameParts}
 use Rattle.published.proofs.Reading.{coefficient-cong, coefficient-made}
 use Rattle.published.proofs.Reading.{replaced-here, replaced-other, exchanged-f, exchanged-g}
 use Rattle.published.proofs.Simultaneous.{raisedF, reducedF, changed-kept, changed-raised, changed-reduced}
-use Rattle.published.proofs.PairNumbers.{one-part, pairing-paired, pairing-even, k-negative, voted-k}
-use Rattle.published.proofs.VotedWeights.{voted-nongap}
+use Rattle.published.proofs.PairNumbers.{one-part, pairing-paired, pairing-even, k-negative, negative-unvoted}
 use Rattle.published.proofs.PairSymbols.{unvoted, w-negative}
 use Rattle.published.proofs.PairStep.{combined, PairStep, kept, raised, reduced}
 use Rattle.published.proofs.InPlace.{InPlace}
@@ -164,16 +163,16 @@ module _ {𝓢 : Symbols} {q : ℕ} (𝓛 : Laws 𝓢 q) where
     -- k is negative: the step is unvoted and w_i = w = 0, and no monomial has that weight
     rule-negative : A + i + pair .t < j → Made
     unfolding voteOn
-    rule-negative h = rule-kept (equal-same 𝓛 (P .w) w (w-negative 𝓢 q u s S i negative ∙ sym zero-vote)) none
+    rule-negative h = rule-kept (equal-same 𝓛 (P .w) w (w-negative 𝓢 q u s S i no-vote negative ∙ sym zero-vote)) none
       where
         negative : isNegative (P .k) ≡ true
         negative = k-negative 𝓢 q u s S i hi h
 
+        no-vote : isVoted q u s ≡ false
+        no-vote = negative-unvoted 𝓢 q u s S i hi h
+
         zero-vote : w ≡ 𝟘
-        zero-vote =
-            decided (isVoted q u s)
-            (λ t. absurd (true≢false (sym negative ∙ voted-k 𝓢 q u s S i hi (voted-nongap q u s t))))
-            (unvoted 𝓢 q u s (pairings 𝓢 q u s S))
+        zero-vote = unvoted 𝓢 q u s (pairings 𝓢 q u s S) no-vote
 
         none : (b n : ℕ) → b < q → weight q b n ≡ weight q i A + s → F lower b n ≡ 𝟘
         none b n hb e =

@@ -1,14 +1,14 @@
--- The symbols of a pair and the vote: w_i and μ_i by the sign of k and the kind of the step.
-use mathlib.Core.Path.{_≡_, ap}
+-- The symbols of a pair and the vote: w_i and μ_i by the kind of the step and the sign of k.
+use mathlib.Core.Path.{_≡_, ap, ap₂, _∙_}
 use mathlib.Core.Logic.{_⊎_, inl, inr}
-use mathlib.Core.Bool.{true, false, cond}
+use mathlib.Core.Bool.{Bool, true, false, cond}
 use mathlib.Core.List.{List}
 use Prim.Native.Nat.{ℕ, _*_, _-_, _≤_}
-use lib.IntN.{pos}
+use lib.IntN.{ℤ, pos}
 use Rattle.algebra.specs.Symbols.{Symbols}
 use Rattle.algebra.specs.Weights.{nongap}
 use Rattle.published.specs.Start.{Polynomials, lower, f, coefficient}
-use Rattle.published.specs.Pairing.{Pairing, pairing, leadF, looked, isNegative, positivePart}
+use Rattle.published.specs.Pairing.{Pairing, pairing, Naming, inVotedStep, inUnvotedStep, leadF, looked, isNegative, positivePart}
 use Rattle.published.specs.Pairing.{isVoted, score, best, vote}
 use Rattle.published.proofs.Tests.{decided}
 use Rattle.published.proofs.VotedWeights.{voted-below, voted-nongap}
@@ -32,25 +32,41 @@ module _ (𝓢 : Symbols) (q : ℕ) (u s : ℕ) where
     abbrev P : Pairing 𝓢 q
     P = pairing 𝓢 q u s S i
 
-    -- "Let b be the coefficient of x^k y^i' in the lower part of f_i", and w_i of it
-    abbrev w-of : K → K
-    w-of b = cond (isVoted q u s) (minus b ⊗ inverse (leadF 𝓢 q S i)) (minus b)
+    -- the leading coefficient of f_i, and b for a k that is not negative
+    abbrev lead : K
+    lead = leadF 𝓢 q S i
 
-    -- and μ_i
-    abbrev μ-of : K
-    μ-of = cond (isVoted q u s) (leadF 𝓢 q S i) 𝟙
+    abbrev b : ℕ → K
+    b k = coefficient 𝓢 q S (f q i) lower (P .partner) k
 
-    -- "If k < 0, w_i = 0"
-    pub w-negative : isNegative (P .k) ≡ true → P .w ≡ 𝟘
-    unfolding pairing
-    w-negative t = ap (λ n. cond n 𝟘 (w-of (looked 𝓢 q S i (P .partner) (P .k)))) t
+    -- w_i and μ_i by the kind of the step and by k
+    abbrev named : Bool → ℤ → Naming 𝓢 q
+    named voted k =
+        let found = looked 𝓢 q S i (P .partner) k in
+        cond voted (inVotedStep 𝓢 q k found lead) (inUnvotedStep 𝓢 q k found)
 
-    -- w_i where k is not negative
-    pub w-whole : (k : ℕ) → P .k ≡ pos k → P .w ≡ w-of (coefficient 𝓢 q S (f q i) lower (P .partner) k)
-    unfolding pairing looked isNegative positivePart
-    w-whole k e = ap (λ n. cond (isNegative n) 𝟘 (w-of (looked 𝓢 q S i (P .partner) n))) e
+    -- in a voted step μ_i is the leading coefficient of f_i
+    pub μ-voted : isVoted q u s ≡ true → (k : ℕ) → P .k ≡ pos k → P .μ ≡ lead
+    unfolding pairing inVotedStep isNegative
+    μ-voted v k e = ap₂ (λ t n. named t n .μ) v e
 
-    -- μ_i where k is not negative
-    pub μ-whole : (k : ℕ) → P .k ≡ pos k → P .μ ≡ μ-of
-    unfolding pairing isNegative
-    μ-whole k e = ap (λ n. cond (isNegative n) 𝟙 μ-of) e
+    -- and w_i = -b/μ_i
+    pub w-voted : isVoted q u s ≡ true → (k : ℕ) → P .k ≡ pos k → P .w ≡ minus (b k) ⊗ inverse lead
+    unfolding pairing inVotedStep looked isNegative positivePart
+    w-voted v k e = ap₂ (λ t n. named t n .w) v e
+
+    -- in an unvoted one μ_i = 1
+    pub μ-unvoted : isVoted q u s ≡ false → P .μ ≡ 𝟙
+    unfolding pairing inUnvotedStep
+    μ-unvoted v = ap (λ t. named t (P .k) .μ) v
+
+    -- and w_i = -b
+    pub w-unvoted : isVoted q u s ≡ false → (k : ℕ) → P .k ≡ pos k → P .w ≡ minus (b k)
+    unfolding pairing inUnvotedStep looked isNegative positivePart
+    w-unvoted v k e = ap₂ (λ t n. named t n .w) v e
+
+    -- "If k < 0, w_i = 0": no voted step has such a k
+    pub w-negative : isVoted q u s ≡ false → isNegative (P .k) ≡ true → P .w ≡ 𝟘
+    unfolding pairing inUnvotedStep
+    w-negative v t =
+        ap (λ t. named t (P .k) .w) v ∙ ap (λ n. cond n 𝟘 (minus (looked 𝓢 q S i (P .partner) (P .k)))) t

@@ -80,19 +80,37 @@ module _ (𝓢 : Symbols) (q : ℕ) where
   unfoldable pub looked : Polynomials 𝓢 q → ℕ → ℕ → ℤ → K
   looked S i partner k = coefficient 𝓢 q S (f q i) lower partner (positivePart k)
 
-  -- "If k < 0, w_i = 0 and μ_i = 1." Unvoted: w_i = -b, μ_i = 1. Voted: μ_i is the leading coefficient of f_i, w_i = -b/μ_i
+  -- w_i, the symbol that pair i names, and μ_i, its factor in r
+  pub record Naming : Type 0 where
+    pub w : K
+    pub μ : K
+
+  -- voted: μ_i is the leading coefficient of f_i, w_i = -b/μ_i; "If k < 0, w_i = 0 and μ_i = 1"
+  unfoldable pub inVotedStep : ℤ → K → K → Naming
+  inVotedStep k b lead =
+      record {
+        w = cond (isNegative k) 𝟘 (minus b ⊗ inverse lead);
+        μ = cond (isNegative k) 𝟙 lead;
+      }
+
+  -- unvoted: w_i = -b, μ_i = 1; "If k < 0, w_i = 0 and μ_i = 1"
+  unfoldable pub inUnvotedStep : ℤ → K → Naming
+  inUnvotedStep k b = record { w = cond (isNegative k) 𝟘 (minus b); μ = 𝟙 }
+
+  -- "for each i": its numbers at step s
   unfoldable pub pairing : ℕ → ℕ → Polynomials 𝓢 q → ℕ → Pairing
   pairing u s S i =
       let total = q * degreeF S i + (q + 1) * i + s in
       let partner = partnerOf q total in
       let k = kOf q total in
       let b = looked S i partner k in
+      let named = cond (isVoted q u s) (inVotedStep k b (leadF S i)) (inUnvotedStep k b) in
       record {
         partner = partner;
         k = k;
         c = pos (degreeG S partner) -ℤ k;
-        w = cond (isNegative k) 𝟘 (cond (isVoted q u s) (minus b ⊗ inverse (leadF S i)) (minus b));
-        μ = cond (isNegative k) 𝟙 (cond (isVoted q u s) (leadF S i) 𝟙);
+        w = named .w;
+        μ = named .μ;
         ν = leadG S partner;
       }
 

@@ -3,16 +3,18 @@
 use mathlib.Core.Path.{_≡_, refl, sym, ap, _∙_}
 use mathlib.Core.Bool.{true, false}
 use Prim.Native.Nat.{ℕ, _+_, _*_, _%_}
-use lib.IntN.{pos, _-ℤ_}
+use lib.IntN.{ℤ, pos, _-ℤ_}
+use Rattle.algebra.specs.Symbols.{Symbols}
 use Rattle.symbols.specs.Rule.{Known, symbols, Sym, number, symbol}
 use Rattle.symbols.proofs.FieldLaws.{laws-of}
 use Rattle.published.specs.Start.{Polynomials, coefficient, width}
-use Rattle.published.specs.Pairing.{Pairing, degree, degreeOf, degreeF, degreeG, leadF, leadG, kOf, partnerOf, isNegative, isVoted, positivePart, looked, pairing}
+use Rattle.published.specs.Pairing.{Pairing, degree, degreeOf, degreeF, degreeG, leadF, leadG, kOf, partnerOf, isNegative, isVoted, positivePart, looked, inVotedStep, inUnvotedStep, pairing}
 use Rattle.workarea.specs.Area.{cellsOf}
 use Rattle.stepvotes.specs.Reading.{LeadingOf}
-use Rattle.stepvotes.specs.Pairs.{NumbersOf}
+use Rattle.stepvotes.specs.Pairs.{NamedAs, NumbersOf}
 use Rattle.stepvotes.specs.declared.reading.Leading.{Leading}
 use Rattle.stepvotes.specs.declared.pairs.Pair.{Pair}
+use Rattle.stepvotes.specs.declared.pairs.Named.{Named}
 use Rattle.stepvotes.proofs.Degrees.{degree-cong}
 use Rattle.workarea.proofs.Coefficients.{upper-cell, lower-cell}
 
@@ -52,7 +54,41 @@ minus-same : (q : ℕ) (a : Sym q) → symbols q .minus a ≡ a
 unfolding symbols
 minus-same q a = refl
 
-module _ (q : ℕ) (known : Known q) (S : Polynomials (symbols q) q) (u s i : ℕ) (f g : Leading) (ef : LeadingOf q f (cellsOf q S (q + i) i))
+-- the coefficient looked at is a cell
+pub looked-cell : (q : ℕ) (S : Polynomials (symbols q) q) (i partner : ℕ) (k : ℤ)
+    → looked (symbols q) q S i partner k ≡ cellsOf q S (q + i) (q + partner) (positivePart k)
+unfolding looked
+looked-cell q S i partner k = lower-cell q S (q + i) partner (positivePart k)
+
+-- what the code gives for w_i and μ_i, by the kind of the step and the sign of k
+module _ (q : ℕ) (known : Known q) (k : ℤ) (named : Named) (b : Sym q) where
+  infixl 70 _⊗_
+  open Symbols (symbols q) using (_⊗_, inverse)
+
+  pub voted-negative : (μ : Sym q) → isNegative k ≡ true → named .w ≡ 0 → named .mu ≡ 1 → NamedAs q named (inVotedStep (symbols q) q k b μ)
+  unfolding inVotedStep
+  voted-negative μ t ew em = record {
+    w = ew ∙ (rw t (sym (laws-of q known .number-zero)));
+    μ = em ∙ (rw t (sym (laws-of q known .number-one)));
+  }
+
+  pub voted-whole : (μ : Sym q) → isNegative k ≡ false → named .w ≡ number q (b ⊗ inverse μ) → named .mu ≡ number q μ
+      → NamedAs q named (inVotedStep (symbols q) q k b μ)
+  unfolding inVotedStep
+  voted-whole μ t ew em = record { w = ew ∙ (rw (t, minus-same q b)); μ = em ∙ (rw t) }
+
+  pub unvoted-negative : isNegative k ≡ true → named .w ≡ 0 → named .mu ≡ 1 → NamedAs q named (inUnvotedStep (symbols q) q k b)
+  unfolding inUnvotedStep
+  unvoted-negative t ew em = record {
+    w = ew ∙ (rw t (sym (laws-of q known .number-zero)));
+    μ = em ∙ sym (laws-of q known .number-one);
+  }
+
+  pub unvoted-whole : isNegative k ≡ false → named .w ≡ number q b → named .mu ≡ 1 → NamedAs q named (inUnvotedStep (symbols q) q k b)
+  unfolding inUnvotedStep
+  unvoted-whole t ew em = record { w = ew ∙ (rw (t, minus-same q b)); μ = em ∙ sym (laws-of q known .number-one) }
+
+module _ (q : ℕ) (S : Polynomials (symbols q) q) (u s i : ℕ) (f g : Leading) (ef : LeadingOf q f (cellsOf q S (q + i) i))
     (eg : LeadingOf q g (cellsOf q S ((q * f .degree + (q + 1) * i + s) % q) (q + (q * f .degree + (q + 1) * i + s) % q))) where
   abbrev total : ℕ
   total = q * f .degree + (q + 1) * i + s
@@ -62,7 +98,7 @@ module _ (q : ℕ) (known : Known q) (S : Polynomials (symbols q) q) (u s i : �
 
   -- the coefficient looked at
   abbrev b : Sym q
-  b = cellsOf q S (q + i) (q + total % q) (positivePart (kOf q total))
+  b = looked (symbols q) q S i (total % q) (kOf q total)
 
   total-is : q * degreeF (symbols q) q S i + (q + 1) * i + s ≡ total
   total-is = ap (λ (n : ℕ). q * n + (q + 1) * i + s) (sym (degree-f q S i f ef))
@@ -79,35 +115,17 @@ module _ (q : ℕ) (known : Known q) (S : Polynomials (symbols q) q) (u s i : �
   unfolding pairing partnerOf
   ν-is = rw total-is (lead-g q S (total % q) g eg)
 
-  looked-is : looked (symbols q) q S i (total % q) (kOf q total) ≡ b
-  unfolding looked
-  looked-is = lower-cell q S (q + i) (total % q) (positivePart (kOf q total))
-
   module _ (pair : Pair) (ep : pair .partner ≡ total % q) (ec : pair .c ≡ pos (g .degree) -ℤ kOf q total) (en : pair .nu ≡ g .coefficient) where
     made : pair .w ≡ number q (P .w) → pair .mu ≡ number q (P .μ) → NumbersOf q pair P
     made ew em = record { partner = ep ∙ partner-is; c = ec ∙ c-is; w = ew; μ = em; ν = en ∙ ν-is }
 
-    -- k is negative
-    pub pair-negative : isNegative (kOf q total) ≡ true → pair .w ≡ 0 → pair .mu ≡ 1 → NumbersOf q pair P
-    unfolding pairing partnerOf
-    pair-negative t ew em =
-        made
-        (ew ∙ (rw (total-is, t) (sym (laws-of q known .number-zero))))
-        (em ∙ (rw (total-is, t) (sym (laws-of q known .number-one))))
+    module _ (named : Named) (ew : pair .w ≡ named .w) (em : pair .mu ≡ named .mu) where
+      -- a voted step
+      pub pair-voted : isVoted q u s ≡ true → NamedAs q named (inVotedStep (symbols q) q (kOf q total) b (leadF (symbols q) q S i)) → NumbersOf q pair P
+      unfolding pairing partnerOf
+      pair-voted v n = made (ew ∙ n .w ∙ (rw (total-is, v))) (em ∙ n .μ ∙ (rw (total-is, v)))
 
-    -- a voted step
-    pub pair-voted : isNegative (kOf q total) ≡ false → isVoted q u s ≡ true
-        → pair .w ≡ number q (symbols q ._⊗_ b (symbols q .inverse (leadF (symbols q) q S i))) → pair .mu ≡ f .coefficient → NumbersOf q pair P
-    unfolding pairing partnerOf
-    pair-voted t v ew em =
-        made
-        (ew ∙ (rw (total-is, t, v, looked-is, minus-same q b)))
-        (em ∙ (rw (total-is, t, v) (lead-f q S i f ef)))
-
-    -- a step with no vote
-    pub pair-plain : isNegative (kOf q total) ≡ false → isVoted q u s ≡ false → pair .w ≡ number q b → pair .mu ≡ 1 → NumbersOf q pair P
-    unfolding pairing partnerOf
-    pair-plain t v ew em =
-        made
-        (ew ∙ (rw (total-is, t, v, looked-is, minus-same q b)))
-        (em ∙ (rw (total-is, t, v) (sym (laws-of q known .number-one))))
+      -- a step with no vote
+      pub pair-unvoted : isVoted q u s ≡ false → NamedAs q named (inUnvotedStep (symbols q) q (kOf q total) b) → NumbersOf q pair P
+      unfolding pairing partnerOf
+      pair-unvoted v n = made (ew ∙ n .w ∙ (rw (total-is, v))) (em ∙ n .μ ∙ (rw (total-is, v)))

@@ -2,14 +2,14 @@
 -- a test of the sign and a cast say.
 -- Assumes nothing.
 use mathlib.Core.Path.{_≡_, refl, sym, ap, _∙_}
-use mathlib.Core.Bool.{Bool, true, false, cond}
+use mathlib.Core.Bool.{Bool, true, false, true≢false, cond}
 use Prim.Native.Nat.{ℕ, zero, suc, _+_, _-_, _*_, _/_, _%_, _^_, _<_, _≤_}
 use native.Mathlib.Nat.{add-zero, sub-zero, add-mul, mul-add, mul-one, mul-comm, mul-le-mul-left, mul-div-cancel-left, div-add-mod', div-le-self, mod-lt, mul-le-mul, not-suc-le-zero}
 use native.Mathlib.Omega.{arith}
 use lib.Dec.{T, ltb}
 use lib.IntN.{ℤ, pos, negsuc, subℕ, _-ℤ_, natAbs}
-use lib.Signed.{mag, ltZ, nonNeg, quotZ}
-use borrow.Author.Tests.{lt-ltb, le-ltb, ltb-true, ltb-false}
+use lib.Signed.{mag, leZ, ltZ, nonNeg, quotZ}
+use borrow.Author.Tests.{le-leb, lt-ltb, le-ltb, ltb-true, ltb-false}
 use mir.Syntax.{w64}
 use mir.Val.{Fits, SFits, toZ, ofZ}
 use mir.ValLaws.{toZ-ofZ}
@@ -159,10 +159,27 @@ unfolding isNegative
 negative-yes (pos n) t = absurd (not-suc-le-zero (ltb-true n 0 t))
 negative-yes (negsuc n) t = refl
 
-pub negative-no : (z : ℤ) → ltZ z (pos 0) ≡ false → (isNegative z ≡ false) × (z ≡ pos (positivePart z))
-unfolding isNegative positivePart
-negative-no (pos n) t = (refl, refl)
+pub negative-no : (z : ℤ) → ltZ z (pos 0) ≡ false → isNegative z ≡ false
+unfolding isNegative
+negative-no (pos n) t = refl
 negative-no (negsuc n) t = let z : _≡_ {A = ℕ} 0 1 = cc in absurd (omega arith)
+
+-- what is not negative is its positive part
+pub whole-is : (z : ℤ) → isNegative z ≡ false → z ≡ pos (positivePart z)
+unfolding isNegative positivePart
+whole-is (pos n) t = refl
+whole-is (negsuc n) t = let z : _≡_ {A = ℕ} 0 1 = cc in absurd (omega arith)
+
+-- as the test the other way round tells it
+pub whole-yes : (z : ℤ) → leZ (pos 0) z ≡ true → isNegative z ≡ false
+unfolding isNegative
+whole-yes (pos n) t = refl
+whole-yes (negsuc n) t = let z : _≡_ {A = ℕ} 0 1 = cc in absurd (omega arith)
+
+pub whole-no : (z : ℤ) → leZ (pos 0) z ≡ false → isNegative z ≡ true
+unfolding isNegative
+whole-no (pos n) t = absurd (true≢false (sym (le-leb 0 n (omega arith)) ∙ t))
+whole-no (negsuc n) t = refl
 
 -- an integer that is not negative can be cast to a number
 pub cast-fits : (z : ℤ) → natAbs z ≤ 2000 → z ≡ pos (positivePart z) → T (nonNeg z) × Fits w64 (natAbs z)

@@ -6,13 +6,19 @@ use Prim.Native.Nat.{ℕ, _<_, _≤_}
 use lib.IntN.{pos, natAbs}
 use lib.ListN.{getD}
 use Rattle.symbols.specs.Rule.{symbols, number}
-use Rattle.published.specs.Pairing.{Pairing}
+use Rattle.published.specs.Pairing.{Pairing, Naming}
 use Rattle.stepvotes.specs.declared.pairs.Pair.{Pair}
+use Rattle.stepvotes.specs.declared.pairs.Named.{Named}
 
 -- the bounds that the code relies on
 pub record Held (q : ℕ) (pair : Pair) : Type 0 where
   pub partner : pair .partner < q
   pub c : natAbs (pair .c) ≤ 2000
+
+-- the numbers of w_i and μ_i
+pub record NamedAs (q : ℕ) (named : Named) (N : Naming (symbols q) q) : Type 0 where
+  pub w : named .w ≡ number q (N .w)
+  pub μ : named .mu ≡ number q (N .μ)
 
 -- the numbers of a pairing
 pub record NumbersOf (q : ℕ) (pair : Pair) (P : Pairing (symbols q) q) : Type 0 where

@@ -1,15 +1,17 @@
 // The numbers of the q pairs at a step: i', c, w_i, μ_i and ν, with k and c signed.
 use crate::reading;
 ghost use mathlib.Core.Path.{_≡_};
+ghost use mathlib.Core.Bool.{false};
 ghost use Prim.Native.Nat.{ℕ, _≤_, _<_};
+ghost use lib.IntN.{natAbs};
 ghost use lib.ListN.{length};
-ghost use Rattle.symbols.specs.Rule.{Known, symbols};
+ghost use Rattle.symbols.specs.Rule.{Known, Sym, symbols, number};
 ghost use Rattle.symbols.specs.Tables.{HasProducts};
 ghost use Rattle.published.specs.Start.{Polynomials};
-ghost use Rattle.published.specs.Pairing.{kOf, isVoted, pairing};
+ghost use Rattle.published.specs.Pairing.{kOf, isNegative, isVoted, looked, inVotedStep, inUnvotedStep, pairing};
 ghost use Rattle.workarea.specs.Area.{Area, cellsOf, Starts, Narrow};
 ghost use Rattle.workarea.specs.Heights.{Heights, Below};
-ghost use Rattle.stepvotes.specs.Pairs.{Held, NumbersOf, pairAt};
+ghost use Rattle.stepvotes.specs.Pairs.{Held, NamedAs, NumbersOf, pairAt};
 
 // The numbers of pair i: `partner` is i'.
 pub struct Pair {
@@ -18,6 +20,12 @@ pub struct Pair {
     pub w: u8,
     pub mu: u8,
     pub nu: u8,
+}
+
+// w_i and μ_i.
+struct Named {
+    w: u8,
+    mu: u8,
 }
 
 // k, where total = qk + (q+1)i' with i' = total mod q: an exact division of a difference that may be negative.
@@ -32,6 +40,57 @@ fn quotient_of(q: usize, total: usize) -> i64
         difference / 4
     } else {
         difference / 2
+    }
+}
+
+// b, the coefficient of x^k y^i' in the lower part of f_i, for a k that is not negative.
+fn looked_at(work: &[u8], q: usize, i: usize, partner: usize, k: i64) -> u8
+    requires { ⌜ Area q (length (now work)) ⌝ }
+    requires { ⌜ (i < q) × (partner < q) × (natAbs k ≤ 1000) × (isNegative k ≡ false) ⌝ }
+    ensures { λ b. ⌜ ((S : Polynomials (symbols q) q) → Narrow q (cellsOf q S) → Starts q (now (work .entry)) (cellsOf q S)
+        → b ≡ number q (looked (symbols q) q S i partner k)) ⌝ }
+{
+    reading::coefficient_at(work, q, q + i, q + partner, k as usize)
+}
+
+// w_i and μ_i in a step that votes, where `lead` is the leading coefficient of f_i. In these fields -b is b.
+fn in_voted_step(
+    table: &[u8],
+    work: &[u8],
+    q: usize,
+    i: usize,
+    partner: usize,
+    k: i64,
+    lead: u8,
+) -> Named
+    requires { ⌜ Area q (length (now work)) × HasProducts q (now table) ⌝ }
+    requires { ⌜ (i < q) × (partner < q) × (natAbs k ≤ 1000) ⌝ }
+    ensures { λ named. ⌜ ((S : Polynomials (symbols q) q) (μ : Sym q) → Narrow q (cellsOf q S) → Starts q (now (work .entry)) (cellsOf q S)
+        → lead ≡ number q μ → NamedAs q named (inVotedStep (symbols q) q k (looked (symbols q) q S i partner k) μ)) ⌝ }
+{
+    if 0 <= k {
+        let b = looked_at(work, q, i, partner, k);
+        return Named {
+            w: symbols::product_in(table, q, b, symbols::inverse(q, lead)),
+            mu: lead,
+        };
+    }
+    Named { w: 0, mu: 1 }
+}
+
+// w_i and μ_i in a step that does not.
+fn in_unvoted_step(work: &[u8], q: usize, i: usize, partner: usize, k: i64) -> Named
+    requires { ⌜ Area q (length (now work)) ⌝ }
+    requires { ⌜ (i < q) × (partner < q) × (natAbs k ≤ 1000) ⌝ }
+    ensures { λ named. ⌜ ((S : Polynomials (symbols q) q) → Narrow q (cellsOf q S) → Starts q (now (work .entry)) (cellsOf q S)
+        → NamedAs q named (inUnvotedStep (symbols q) q k (looked (symbols q) q S i partner k))) ⌝ }
+{
+    if k < 0 {
+        return Named { w: 0, mu: 1 };
+    }
+    Named {
+        w: looked_at(work, q, i, partner, k),
+        mu: 1,
     }
 }
 
@@ -52,43 +111,23 @@ fn pair_of(
     ensures { λ pair. ⌜ ((S : Polynomials (symbols q) q) (u : ℕ) → Narrow q (cellsOf q S) → Below q (now (heights .entry)) (cellsOf q S)
         → Starts q (now (work .entry)) (cellsOf q S) → isVoted q u s ≡ voted → NumbersOf q pair (pairing (symbols q) q u s S i)) ⌝ }
 {
-    let height = heights[q + i];
-    let f = reading::leading_below(work, q, q + i, i, height);
-    let a = f.degree;
-    let mu = f.coefficient;
-    let total = q * a + (q + 1) * i + s;
+    let f = reading::leading_below(work, q, q + i, i, heights[q + i]);
+    let total = q * f.degree + (q + 1) * i + s;
     let partner = curve::remainder(q, total);
     let k = quotient_of(q, total);
     let g = reading::leading_of(work, q, partner, q + partner);
-    let d = g.degree;
-    let nu = g.coefficient;
-    let c = (d as i64) - k;
-    if k < 0 {
-        return Pair {
-            partner,
-            c,
-            w: 0,
-            mu: 1,
-            nu,
-        };
-    }
-    let b = reading::coefficient_at(work, q, q + i, q + partner, k as usize);
-    if voted {
-        let w = symbols::product_in(table, q, b, symbols::inverse(q, mu));
-        return Pair {
-            partner,
-            c,
-            w,
-            mu,
-            nu,
-        };
-    }
+    let c = (g.degree as i64) - k;
+    let named = if voted {
+        in_voted_step(table, work, q, i, partner, k, f.coefficient)
+    } else {
+        in_unvoted_step(work, q, i, partner, k)
+    };
     Pair {
         partner,
         c,
-        w: b,
-        mu: 1,
-        nu,
+        w: named.w,
+        mu: named.mu,
+        nu: g.coefficient,
     }
 }
 

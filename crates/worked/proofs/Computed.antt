@@ -13,7 +13,7 @@ use Rattle.curve.specs.Rows.{messageAt, rowOf}
 use Rattle.encoder.specs.Encoding.{rowNumbers}
 use Rattle.published.specs.Start.{width, startWeight, stepCount, coefficient, polynomial, polynomials, term, h, table, ofTable, vanishing, one, nothing, negated, startPart, start}
 use Rattle.published.specs.Picture.{areaSize}
-use Rattle.published.specs.Pairing.{degree, isNegative, positivePart, negativePart, isVoted, partnerOf, kOf, best, degreeOf, degreeF, degreeG, leadF, leadG, looked, pairing, score, vote}
+use Rattle.published.specs.Pairing.{degree, isNegative, positivePart, negativePart, isVoted, partnerOf, kOf, best, degreeOf, degreeF, degreeG, leadF, leadG, looked, inVotedStep, inUnvotedStep, pairing, score, vote}
 use Rattle.published.specs.Steps.{substitutedPart, substituted, raisedPart, reducedPart, replaced, exchanged, ratio, changed, noPair, updated, pairings, step, after, messageOf}
 use Rattle.steps.specs.Stop.{stateAfter, votesAfter}
 use Rattle.judging.specs.Judging.{differing, countOf}
@@ -24,7 +24,7 @@ use Rattle.worked.specs.Stated.{Stated, product2, powerOf2, gaps, ordina
 
 -- opens all that the table computes with
 unfoldable computing : Unit {0}
-unfolding same power sum weight xPower yPower gap nongap shift timesX timesY timesYs timesMonomial monomialAt unit xPart yPart from tab keep size reducedBy twice chosen product powerOf inverseOf Below into symbols onCurve pair points pointAt pointCount nongaps dimension reach messageAt rowOf rowNumbers width startWeight stepCount coefficient polynomial polynomials term h table ofTable vanishing one nothing negated startPart start degree isNegative positivePart negativePart isVoted partnerOf kOf best degreeOf degreeF degreeG leadF leadG looked pairing score vote substitutedPart substituted raisedPart reducedPart replaced exchanged ratio changed noPair updated pairings step after messageOf stateAfter votesAfter differing countOf judgement voted decoded is has terms pointNumbers powers polynomialAfter pairOne areaSize product2 powerOf2 gaps ordinates
+unfolding same power sum weight xPower yPower gap nongap shift timesX timesY timesYs timesMonomial monomialAt unit xPart yPart from tab keep size reducedBy twice chosen product powerOf inverseOf Below into symbols onCurve pair points pointAt pointCount nongaps dimension reach messageAt rowOf rowNumbers width startWeight stepCount coefficient polynomial polynomials term h table ofTable vanishing one nothing negated startPart start degree isNegative positivePart negativePart isVoted partnerOf kOf best degreeOf degreeF degreeG leadF leadG looked inVotedStep inUnvotedStep pairing score vote substitutedPart substituted raisedPart reducedPart replaced exchanged ratio changed noPair updated pairings step after messageOf stateAfter votesAfter differing countOf judgement voted decoded is has terms pointNumbers powers polynomialAfter pairOne areaSize product2 powerOf2 gaps ordinates
 computing = tt
 
 pub worked : Table

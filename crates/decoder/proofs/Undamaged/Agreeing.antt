@@ -1,12 +1,13 @@
 -- One step on y^i(z - F), where F is what is left of a message's function: every pair names the symbol of this weight, and the
 -- pair of f_0 has a positive c, so that this symbol is the vote.
 -- Assumes nothing.
-use mathlib.Core.Path.{_≡_, refl, sym, ap, _∙_}
-use mathlib.Core.Bool.{Bool, true, false, cond}
-use Prim.Native.Nat.{ℕ, suc, _+_, _*_, _-_, _≤_, _<_}
+use mathlib.Core.Path.{_≡_, sym, ap, _∙_}
+use mathlib.Core.Bool.{true, false}
+use Prim.Native.Nat.{ℕ, suc, _+_, _*_, _-_, _<_}
 use native.Mathlib.Nat as Nat
 use native.Mathlib.Omega.{arith}
 use native.Mathlib.Decide.{decLt}
+use lib.IntN.{pos}
 use Rattle.algebra.specs.Symbols.{Symbols, Laws}
 use Rattle.algebra.specs.Weights.{weight}
 use Rattle.algebra.proofs.Ring.{units, minus-minus, one-mul}
@@ -15,10 +16,11 @@ use Rattle.algebra.proofs.WeightLaws.{weight-fits}
 use Rattle.algebra.proofs.Partners.{pair-weight}
 use Rattle.algebra.proofs.Bounds.{Cut}
 use Rattle.curve.proofs.Arranged.{Arranged}
-use Rattle.published.specs.Start.{Polynomials, lower}
-use Rattle.published.specs.Pairing.{Pairing, pairing, degreeF, leadF, looked, isVoted, isNegative, positivePart}
+use Rattle.published.specs.Start.{Polynomials, lower, f, coefficient}
+use Rattle.published.specs.Pairing.{Pairing, pairing, degreeF, isVoted, positivePart}
 use Rattle.published.proofs.Tests.{decided}
-use Rattle.published.proofs.PairNumbers.{pairing-paired, pairing-even, k-negative, k-whole, voted-whole}
+use Rattle.published.proofs.PairNumbers.{pairing-paired, pairing-even, k-negative, negative-unvoted, k-whole, voted-whole}
+use Rattle.published.proofs.PairSymbols.{w-voted, w-unvoted, w-negative}
 use Rattle.published.proofs.VotedWeights.{unvoted-above, unvoted-gap, voted-below, voted-nongap}
 use Rattle.decoder.proofs.Undamaged.Remaining.{below, below-in, below-out, below-looked}
 use Rattle.decoder.proofs.Undamaged.Begun.{begun, held-f, part-f-lower, degree-f, degree-g, leading-f}
@@ -63,38 +65,29 @@ module _ {𝓢 : Symbols} {q : ℕ} (𝓛 : Laws 𝓢 q) (A : Arranged 𝓢 q) (
           sym w ∙ omega (arith, n)
 
       -- its coefficient is minus the symbol of this weight
-      looked-is : P .partner ≤ quotient → looked 𝓢 q S i (P .partner) (P .k) ≡ minus (ω s)
-      unfolding looked positivePart
-      looked-is h =
+      looked-is : (k : ℕ) → k + P .partner ≡ quotient → coefficient 𝓢 q S (f q i) lower (P .partner) k ≡ minus (ω s)
+      looked-is k e =
           let F = below 𝓢 q ω (suc s) in
-          let k : ℕ = quotient - P .partner in
           let small = pairing-paired 𝓢 q u s S i hi .small′ in
-          rw (k-whole 𝓢 q u s S i hi h)
-          (held-f 𝓛 F i hi lower (P .partner) k (omega arith) small ∙ part-f-lower 𝓛 F i hi A (left-small (suc s)) (P .partner) k small
-          ∙ below-looked 𝓛 ω s i (P .partner) k (λ t. unvoted s (unvoted-gap q u s t)) small (looked-weight k (omega arith)))
+          held-f 𝓛 F i hi lower (P .partner) k (omega arith) small
+          ∙ part-f-lower 𝓛 F i hi A (left-small (suc s)) (P .partner) k small
+          ∙ below-looked 𝓛 ω s i (P .partner) k (λ t. unvoted s (unvoted-gap q u s t)) small (looked-weight k e)
 
-      w-is : P .w ≡ cond (isNegative (P .k)) 𝟘 (cond (isVoted q u s) (minus (looked 𝓢 q S i (P .partner) (P .k)) ⊗ inverse (leadF 𝓢 q S i)) (minus (looked 𝓢 q S i (P .partner) (P .k))))
-      unfolding pairing
-      w-is = refl
-
-      k-positive : P .partner ≤ quotient → isNegative (P .k) ≡ false
-      unfolding isNegative
-      k-positive h = rw (k-whole 𝓢 q u s S i hi h)
-
-      named : (t : Bool) → cond t (minus (minus (ω s)) ⊗ inverse (leadF 𝓢 q S i)) (minus (minus (ω s))) ≡ ω s
-      named true =
+      -- so w_i is that symbol where k is not negative
+      whole : (k : ℕ) → k + P .partner ≡ quotient → P .k ≡ pos k → P .w ≡ ω s
+      whole k e is =
           let one-lead = leading-f 𝓛 (below 𝓢 q ω (suc s)) i hi in
-          simp (one-lead, inverse-one, units, 𝓛)
-      named false = minus-minus 𝓛 (ω s)
+          decided (isVoted q u s)
+          (λ v. w-voted 𝓢 q u s S i v k is ∙ rw (looked-is k e) (simp (one-lead, inverse-one, units, 𝓛)))
+          (λ v. w-unvoted 𝓢 q u s S i v k is ∙ rw (looked-is k e) (minus-minus 𝓛 (ω s)))
 
       -- w_i is the symbol of this weight
       pub names : P .w ≡ ω s
       names = elim (decLt quotient (P .partner)) [
-        | yes l ↦ w-is ∙ rw (k-negative 𝓢 q u s S i hi l) (decided (isVoted q u s)
-            (λ t. absurd (omega (arith, voted-whole 𝓢 q u s S i hi (voted-nongap q u s t)))) (λ t. sym (unvoted s t)))
-        | no l ↦
-            let h : P .partner ≤ quotient = omega arith in
-            w-is ∙ rw (k-positive h, looked-is h) (named (isVoted q u s))
+        | yes l ↦
+            let v = negative-unvoted 𝓢 q u s S i hi l in
+            w-negative 𝓢 q u s S i v (k-negative 𝓢 q u s S i hi l) ∙ sym (unvoted s v)
+        | no l ↦ whole (quotient - P .partner) (omega arith) (k-whole 𝓢 q u s S i hi (omega arith))
       ]
 
     -- c is positive for i = 0

@@ -3,35 +3,14 @@
 use mathlib.Core.Path.{_≡_, refl, sym}
 use mathlib.Core.Logic.{_≢_}
 use mathlib.Core.Bool.{true}
-use Prim.Native.Nat.{ℕ, zero, suc, _+_, _*_, _-_, _≤_, _<_}
+use Prim.Native.Nat.{ℕ, zero, suc, _+_, _*_, _-_, _<_}
 use native.Mathlib.Omega.{arith}
-use native.Mathlib.Decide.{ℕ-discrete}
-use borrow.Author.Tests.{lt-ltb, le-ltb, eq-eqb, ne-eqb}
+use borrow.Author.Tests.{eq-eqb, ne-eqb}
 use Rattle.algebra.specs.Symbols.{Symbols, Laws}
 use Rattle.lists.specs.Tables.{from, tab}
 use Rattle.algebra.proofs.Powers.{two-le-q}
-use Rattle.published.specs.Pairing.{Pairing, isVoted, positivePart, best, score, vote}
-
--- no score at all: 0
-best-none : (points : ℕ → ℕ) (n : ℕ) → ((a : ℕ) → a ≤ n → points a ≡ 0) → best points n ≡ 0
-unfolding best
-best-none points zero none = refl
-best-none points (suc n) none =
-    let before = best-none points n (λ a l. none a (omega arith)) in
-    rw (before, none 0 (omega arith), none (suc n) (omega arith))
-
--- one symbol alone with a score: that symbol
-pub best-only : (points : ℕ → ℕ) (n b : ℕ) → b ≤ n → 0 < points b → ((a : ℕ) → a ≤ n → a ≢ b → points a ≡ 0) → best points n ≡ b
-unfolding best
-best-only points zero b l some none = omega arith
-best-only points (suc n) b l some none = elim (ℕ-discrete b (suc n)) [
-  | yes e ↦
-      let before = best-none points n (λ a l. none a (omega arith) (omega arith)) in
-      rw (before, none 0 (omega arith) (omega arith), lt-ltb 0 (points (suc n)) (rw e at some)) (sym e)
-  | no ne ↦
-      let before = best-only points n b (omega arith) some (λ a l. none a (omega arith)) in
-      rw (before, none (suc n) (omega arith) (omega arith), le-ltb (points b) 0 (omega arith))
-]
+use Rattle.published.specs.Pairing.{Pairing, isVoted, positivePart, score, vote}
+use Rattle.published.proofs.Best.{best-only}
 
 module _ (𝓢 : Symbols) (q : ℕ) (w : 𝓢 .K) where
   open Symbols 𝓢 using (K, number)

@@ -1,4 +1,4 @@
--- Each of the three ways out gives the numbers of the pairing.
+-- Both ways out give the numbers of the pairing.
 -- Assumes nothing.
 use mathlib.Core.Path.{_≡_, refl, ap, _∙_}
 use Prim.Native.Nat.{ℕ, _+_, _*_, _≤_}
@@ -12,12 +12,12 @@ use lib.ListN.{getD}
 use denote.Ref.{now}
 use Rattle.symbols.specs.Rule.{symbols}
 use Rattle.published.specs.Start.{Polynomials}
-use Rattle.workarea.specs.Area.{cellsOf}
-use Rattle.stepvotes.specs.Reading.{Short}
+use Rattle.workarea.specs.Area.{cellsOf, Starts}
+use Rattle.stepvotes.specs.Reading.{Short, LeadingOf}
 use Rattle.workarea.specs.Heights.{Below}
 use Rattle.stepvotes.specs.Pairs.{Held}
-use Rattle.stepvotes.proofs.Signed.{Divided, divided, k-small, back, less-small, less-fits, less-value, negative-yes, negative-no, cast-fits}
-use Rattle.stepvotes.proofs.PairNumbers.{lead-f, quotient-is, pair-negative, pair-voted, pair-plain}
+use Rattle.stepvotes.proofs.Signed.{Divided, divided, k-small, back, less-small, less-fits, less-value}
+use Rattle.stepvotes.proofs.PairNumbers.{lead-f, pair-voted, pair-unvoted}
 use borrow.Author.Needs.{needs}
 use Rattle.stepvotes.proofs.pairs.pair_of.Statement.{statement}
 use Rattle.stepvotes.proofs.pairs.pair_of.Tie as tie
@@ -42,13 +42,16 @@ small c =
 parts : (c : tie.After-leading-below) → Divided (c .before .before .before .before .before .args .q) (total c)
 parts c = divided _ _ (c .before .before .before .before .before .pre .0 .known) (small c .all)
 
--- the height is that of the upper row that is read
-short : (c : tie.After-leading-below) → let s = c .before .before .before .before .before in
+-- the leading symbol of f_i: the height is that of the upper row that is read
+leads : (c : tie.After-leading-below) → let s = c .before .before .before .before .before in
     (S : Polynomials (symbols (s .args .q)) (s .args .q)) → Below (s .args .q) (now (s .args .heights)) (cellsOf (s .args .q) S)
-    → Short (s .args .q) (getD (now (s .args .heights)) (s .args .q + s .args .i) 0) (cellsOf (s .args .q) S (s .args .q + s .args .i) (s .args .i))
-short c S below =
+    → Starts (s .args .q) (now (s .args .work)) (cellsOf (s .args .q) S)
+    → LeadingOf (s .args .q) (c .leading-below .result) (cellsOf (s .args .q) S (s .args .q + s .args .i) (s .args .i))
+leads c S below z =
     let s = c .before .before .before .before .before in
-    record { zeros = λ n h l. below .above _ _ n (omega (arith, s .pre .1 .1 .0)) (s .pre .1 .1 .0) l h }
+    let short : Short (s .args .q) (getD (now (s .args .heights)) (s .args .q + s .args .i) 0) (cellsOf (s .args .q) S (s .args .q + s .args .i) (s .args .i)) =
+    record { zeros = λ n h l. below .above _ _ n (omega (arith, s .pre .1 .1 .0)) (s .pre .1 .1 .0) l h } in
+    c .leading-below .ensures .1 (cellsOf _ S) z short
 
 -- k is the definition's, and small
 module _ (c : tie.After-leading-of) where
@@ -56,13 +59,13 @@ module _ (c : tie.After-leading-of) where
   k = c .before .quotient-of .result
 
   abbrev kIs : ℤ
-  kIs = kOf (c .before .before .before .before .before .before .before .before .args .q) (total (c .before .before .before))
+  kIs = kOf (c .before .before .before .before .before .before .before .before .before .args .q) (total (c .before .before .before .before))
 
   low : natAbs k ≤ 1000
-  low = rw (c .before .quotient-of .ensures) (k-small _ _ (parts (c .before .before .before)))
+  low = rw (c .before .quotient-of .ensures) (k-small _ _ (parts (c .before .before .before .before)))
 
   degree : c .leading-of .result .degree ≤ 1000
-  degree = omega (arith, c .before .before .before .before .before .before .before .before .pre .0 .narrow, c .leading-of .ensures .0)
+  degree = omega (arith, c .before .before .before .before .before .before .before .before .before .pre .0 .narrow, c .leading-of .ensures .0)
 
   c-is : toZ w64 (ofZ w64 (toZ w64 (c .leading-of .result .degree) -ℤ toZ w64 (ofZ w64 k))) ≡ pos (c .leading-of .result .degree) -ℤ kIs
   c-is = less-value _ k degree low ∙ ap (λ (z : ℤ). pos (c .leading-of .result .degree) -ℤ z) (c .before .quotient-of .ensures)
@@ -73,19 +76,19 @@ module _ (c : tie.After-leading-of) where
   k-is : toZ w64 (ofZ w64 k) ≡ kIs
   k-is = back k (omega (arith, low)) ∙ c .before .quotient-of .ensures
 
-add-height : tie.Need-add-height
-add-height c = search needs
-
-mul-height : tie.Need-mul-height
-mul-height c = search needs
-
-shared-slice-read-height : tie.Need-shared-slice-read-height
-shared-slice-read-height c =
-    let s = c .before .before .before .before in
-    omega (arith, s .pre .1 .0 .enough, s .pre .1 .1 .0)
-
 add-leading-below : tie.Need-add-leading-below
 add-leading-below c = search needs
+
+add-leading-below-2 : tie.Need-add-leading-below-2
+add-leading-below-2 c = search needs
+
+mul-leading-below : tie.Need-mul-leading-below
+mul-leading-below c = search needs
+
+shared-slice-read-leading-below : tie.Need-shared-slice-read-leading-below
+shared-slice-read-leading-below c =
+    let s = c .before .before .before .before in
+    omega (arith, s .pre .1 .0 .enough, s .pre .1 .1 .0)
 
 leading-below-requires : tie.Need-leading-below-requires
 leading-below-requires c κs =
@@ -93,109 +96,87 @@ leading-below-requires c κs =
     (s .pre .0, (omega (arith, s .pre .1 .1 .0), omega (arith, s .pre .1 .1 .0), s .pre .1 .0 .low _ (omega (arith, s .pre .1 .1 .0))))
 
 mul-total : tie.Need-mul-total
-mul-total c = omega (arith, small c)
+mul-total c = omega (arith, small (c .before))
 
 add-total : tie.Need-add-total
 add-total c = search needs
 
 mul-total-2 : tie.Need-mul-total-2
-mul-total-2 c = omega (arith, small c)
+mul-total-2 c = omega (arith, small (c .before))
 
 add-total-2 : tie.Need-add-total-2
-add-total-2 c = omega (arith, small c)
+add-total-2 c = omega (arith, small (c .before))
 
 add-total-3 : tie.Need-add-total-3
-add-total-3 c = omega (arith, small c)
+add-total-3 c = omega (arith, small (c .before))
 
 remainder-requires : tie.Need-remainder-requires
-remainder-requires c κs = c .before .before .before .before .before .pre .0 .known
+remainder-requires c κs = c .before .before .before .before .before .before .pre .0 .known
 
 quotient-of-requires : tie.Need-quotient-of-requires
-quotient-of-requires c κs = (c .before .before .before .before .before .before .pre .0 .known, small (c .before) .all)
+quotient-of-requires c κs = (c .before .before .before .before .before .before .before .pre .0 .known, small (c .before .before) .all)
 
 add-leading-of : tie.Need-add-leading-of
-add-leading-of c = rw (c .before .remainder .ensures) (omega (arith, parts (c .before .before)))
+add-leading-of c = rw (c .before .remainder .ensures) (omega (arith, parts (c .before .before .before)))
 
 leading-of-requires : tie.Need-leading-of-requires
-leading-of-requires c κs = (c .before .before .before .before .before .before .before .pre .0, rw (c .before .remainder .ensures) (omega (arith, parts (c .before .before))))
+leading-of-requires c κs = (c .before .before .before .before .before .before .before .before .pre .0, rw (c .before .remainder .ensures) (omega (arith, parts (c .before .before .before))))
 
 cast-c : tie.Need-cast-c
 cast-c c = search needs
 
 sub-c : tie.Need-sub-c
-sub-c c = less-fits _ (k c) (degree c) (low c)
+sub-c c = less-fits _ (k (c .before)) (degree (c .before)) (low (c .before))
+
+in-voted-step-requires : tie.Need-in-voted-step-requires
+in-voted-step-requires c κs =
+    let d = c .before .before in
+    let s = c .before .before .before .before .before .before .before .before .before .before .before in
+    let small-k : natAbs (kIs d) ≤ 1000 = k-small _ _ (parts (d .before .before .before .before)) in
+    ((s .pre .0, s .pre .1 .1 .2), rw (d .before .before .remainder .ensures, k-is d) (s .pre .1 .1 .0, parts (d .before .before .before .before) .part, small-k))
+
+in-unvoted-step-requires : tie.Need-in-unvoted-step-requires
+in-unvoted-step-requires c κs =
+    let d = c .before .before in
+    let s = c .before .before .before .before .before .before .before .before .before .before .before in
+    let small-k : natAbs (kIs d) ≤ 1000 = k-small _ _ (parts (d .before .before .before .before)) in
+    (s .pre .0, rw (d .before .before .remainder .ensures, k-is d) (s .pre .1 .1 .0, parts (d .before .before .before .before) .part, small-k))
 
 -- the bounds of the pair, where its partner is what the remainder gave
-held : (c : tie.After-leading-of) (w mu : ℕ) → Held (c .before .before .before .before .before .before .before .before .args .q) (record { partner = c .before .before .remainder .result; c = toZ w64 (ofZ w64 (toZ w64 (c .leading-of .result .degree) -ℤ toZ w64 (ofZ w64 (k c)))); w = w; mu = mu; nu = c .leading-of .result .coefficient })
-held c w mu = record { partner = rw (c .before .before .remainder .ensures) (parts (c .before .before .before) .part); c = c-small c }
+held : (c : tie.After-leading-of) (w mu : ℕ) → Held (c .before .before .before .before .before .before .before .before .before .args .q) (record { partner = c .before .before .remainder .result; c = toZ w64 (ofZ w64 (toZ w64 (c .leading-of .result .degree) -ℤ toZ w64 (ofZ w64 (k c)))); w = w; mu = mu; nu = c .leading-of .result .coefficient })
+held c w mu = record { partner = rw (c .before .before .remainder .ensures) (parts (c .before .before .before .before) .part); c = c-small c }
 
 returns : tie.Need-returns
 returns c =
-    let d = c .before in
-    let s = c .before .before .before .before .before .before .before .before .before in
-    let r = c .before .before .before .remainder .ensures in (
+    let d = c .before .before .before in
+    let r = d .before .before .remainder .ensures in (
       held d _ _,
       λ S u narrow below z v.
-          pair-negative _ (s .pre .0 .known) S u _ _ (c .before .before .before .before .leading-below .result) (c .before .leading-of .result) (c .before .before .before .before .leading-below .ensures .1 (cellsOf _ S) z (short (c .before .before .before .before) S below)) (rw r at (c .before .leading-of .ensures .1 (cellsOf _ S) z))
-          _ r (c-is d) refl (negative-yes (kIs d) (rw (k-is d) at (c .if1 .taken))) refl refl,
+          let lead = leads (d .before .before .before .before) S below z in
+          pair-voted _ S u _ _ (d .before .before .before .before .leading-below .result) (d .leading-of .result) lead (rw r at (d .leading-of .ensures .1 (cellsOf _ S) z))
+          _ r (c-is d) refl (c .in-voted-step .result) refl refl (v ∙ c .before .if1 .taken)
+          (rw (r, k-is d) at (c .in-voted-step .ensures S _ narrow z (lead-f _ S _ _ lead))),
     )
-
-add-coefficient-at : tie.Need-add-coefficient-at
-add-coefficient-at c = search needs
-
-add-coefficient-at-2 : tie.Need-add-coefficient-at-2
-add-coefficient-at-2 c = rw (c .before .before .before .remainder .ensures) (omega (arith, parts (c .before .before .before .before)))
-
-cast-coefficient-at : tie.Need-cast-coefficient-at
-cast-coefficient-at c =
-    let d = c .before in
-    rw (k-is d) (cast-fits (kIs d) (omega (arith, k-small _ _ (parts (d .before .before .before)))) (negative-no (kIs d) (rw (k-is d) at (c .if1 .left)) .1))
-
-coefficient-at-requires : tie.Need-coefficient-at-requires
-coefficient-at-requires c κs = (c .before .before .before .before .before .before .before .before .before .pre .0, rw (c .before .before .before .remainder .ensures) (omega (arith, parts (c .before .before .before .before))))
-
-inverse-requires : tie.Need-inverse-requires
-inverse-requires c κs = search needs
-
-product-in-requires : tie.Need-product-in-requires
-product-in-requires c κs = let s = c .before .before .before .before .before .before .before .before .before .before .before .before in (s .pre .0 .known, s .pre .1 .1 .2)
 
 returns-2 : tie.Need-returns-2
 returns-2 c =
-    let d = c .before .before .before .before .before in
-    let s = c .before .before .before .before .before .before .before .before .before .before .before .before .before in
-    let r = c .before .before .before .before .before .before .before .remainder .ensures in
-    let n = negative-no (kIs d) (rw (k-is d) at (c .before .before .before .before .if1 .left)) in (
-      held d _ _,
-      λ S u narrow below z v.
-          let lead = c .before .before .before .before .before .before .before .before .leading-below .ensures .1 (cellsOf _ S) z (short (c .before .before .before .before .before .before .before .before) S below) in
-          let read = rw (r, k-is d, n .1) at (c .before .before .before .coefficient-at .ensures (cellsOf _ S) narrow z) in
-          pair-voted _ (s .pre .0 .known) S u _ _ (c .before .before .before .before .before .before .before .before .leading-below .result) (c .before .before .before .before .before .leading-of .result) lead (rw r at (c .before .before .before .before .before .leading-of .ensures .1 (cellsOf _ S) z))
-          _ r (c-is d) refl (n .0) (v ∙ c .before .before .if2 .taken)
-          (quotient-is _ (s .pre .0 .known) _ _ _ _ _ _ read (lead-f _ S _ _ lead) (c .before .inverse .ensures) (c .product-in .ensures)) refl,
-    )
-
-returns-3 : tie.Need-returns-3
-returns-3 c =
     let d = c .before .before .before in
-    let s = c .before .before .before .before .before .before .before .before .before .before .before in
-    let r = c .before .before .before .before .before .remainder .ensures in
-    let n = negative-no (kIs d) (rw (k-is d) at (c .before .before .if1 .left)) in (
+    let r = d .before .before .remainder .ensures in (
       held d _ _,
       λ S u narrow below z v.
-          pair-plain _ (s .pre .0 .known) S u _ _ (c .before .before .before .before .before .before .leading-below .result) (c .before .before .before .leading-of .result) (c .before .before .before .before .before .before .leading-below .ensures .1 (cellsOf _ S) z (short (c .before .before .before .before .before .before) S below)) (rw r at (c .before .before .before .leading-of .ensures .1 (cellsOf _ S) z))
-          _ r (c-is d) refl (n .0) (v ∙ c .if2 .left)
-          (rw (r, k-is d, n .1) at (c .before .coefficient-at .ensures (cellsOf _ S) narrow z)) refl,
+          pair-unvoted _ S u _ _ (d .before .before .before .before .leading-below .result) (d .leading-of .result) (leads (d .before .before .before .before) S below z) (rw r at (d .leading-of .ensures .1 (cellsOf _ S) z))
+          _ r (c-is d) refl (c .in-unvoted-step .result) refl refl (v ∙ c .before .if1 .left)
+          (rw (r, k-is d) at (c .in-unvoted-step .ensures S narrow z)),
     )
 
 pub pair-of-spec : {M : Type 1} → statement M
 pair-of-spec =
     tie.close
     (tie.spec
-    add-height
-    mul-height
-    shared-slice-read-height
     add-leading-below
+    add-leading-below-2
+    mul-leading-below
+    shared-slice-read-leading-below
     leading-below-requires
     mul-total
     add-total
@@ -208,12 +189,7 @@ pair-of-spec =
     leading-of-requires
     cast-c
     sub-c
+    in-voted-step-requires
+    in-unvoted-step-requires
     returns
-    add-coefficient-at
-    add-coefficient-at-2
-    cast-coefficient-at
-    coefficient-at-requires
-    inverse-requires
-    product-in-requires
-    returns-2
-    returns-3)
+    returns-2)

@@ -6,7 +6,7 @@ use native.Mathlib.Omega.{arith}
 use lib.ListN.{getD}
 use Rattle.published.specs.Pairing.{best}
 use Rattle.workarea.proofs.Sizes.{sizes}
-use Rattle.stepvotes.proofs.VoteLaws.{best-first, best-higher, best-kept}
+use Rattle.published.proofs.Best.{best-first, best-higher, best-kept}
 use borrow.Author.Needs.{needs}
 use Rattle.stepvotes.proofs.votes.best_of.Statement.{statement}
 use Rattle.stepvotes.proofs.votes.best_of.Tie as tie

@@ -1,14 +1,15 @@
 -- The two tests of the definition.
 -- Assumes nothing.
-use mathlib.Core.Path.{ap, _∙_}
+use mathlib.Core.Path.{sym, ap, _∙_}
 use mathlib.Core.Bool.{not}
-use Rattle.stepvotes.proofs.VoteLaws.{voted-late, voted-is}
+use Rattle.published.proofs.VotedWeights.{unvoted-above}
+use Rattle.stepvotes.proofs.VoteLaws.{voted-is}
 use borrow.Author.Needs.{needs}
 use Rattle.stepvotes.proofs.votes.is_voted.Statement.{statement}
 use Rattle.stepvotes.proofs.votes.is_voted.Tie as tie
 
 returns : tie.Need-returns
-returns c = voted-late _ _ _ (c .if1 .taken)
+returns c = sym (unvoted-above _ _ _ (c .if1 .taken))
 
 is-gap-requires : tie.Need-is-gap-requires
 is-gap-requires c κs = search needs

@@ -11,7 +11,7 @@ use Rattle.symbols.proofs.FieldLaws.{laws-of}
 use Rattle.published.specs.Pairing.{Pairing, score, positivePart}
 use Rattle.stepvotes.specs.Pairs.{NumbersOf, pairAt}
 use Rattle.workarea.proofs.Sizes.{sizes}
-use Rattle.stepvotes.proofs.VoteLaws.{score-none, scores-more, bounded-more}
+use Rattle.stepvotes.proofs.ScoreLaws.{score-none, scores-more, bounded-more}
 use Rattle.lists.proofs.Tables.{replicate-at}
 use Rattle.stepvotes.proofs.Signed.{back, positive-small}
 use borrow.Author.Needs.{needs}
