@@ -12,30 +12,30 @@ use Rattle.published.specs.Pairing.{Pairing, degree, degreeOf, degreeF, degreeG
 use Rattle.workarea.specs.Area.{cellsOf}
 use Rattle.stepvotes.specs.Reading.{LeadingOf}
 use Rattle.stepvotes.specs.Pairs.{NamedAs, NumbersOf}
-use Rattle.stepvotes.specs.declared.reading.Leading.{Leading}
+use Rattle.stepvotes.specs.declared.reading.RowLead.{RowLead}
 use Rattle.stepvotes.specs.declared.pairs.Pair.{Pair}
-use Rattle.stepvotes.specs.declared.pairs.Named.{Named}
+use Rattle.stepvotes.specs.declared.pairs.NamedSymbol.{NamedSymbol}
 use Rattle.stepvotes.proofs.Degrees.{degree-cong}
 use Rattle.workarea.proofs.Coefficients.{upper-cell, lower-cell}
 
 module _ (q : ℕ) (S : Polynomials (symbols q) q) where
   -- the leading symbol of f_i, and of g_i
-  pub degree-f : (i : ℕ) (f : Leading) → LeadingOf q f (cellsOf q S (q + i) i) → f .degree ≡ degreeF (symbols q) q S i
+  pub degree-f : (i : ℕ) (f : RowLead) → LeadingOf q f (cellsOf q S (q + i) i) → f .degree ≡ degreeF (symbols q) q S i
   unfolding degreeF degreeOf
   degree-f i f e = e .degree-is ∙ degree-cong _ _ (λ n. ap (number q) (sym (upper-cell q S (q + i) i n))) (width q)
 
-  pub lead-f : (i : ℕ) (f : Leading) → LeadingOf q f (cellsOf q S (q + i) i) → f .coefficient ≡ number q (leadF (symbols q) q S i)
+  pub lead-f : (i : ℕ) (f : RowLead) → LeadingOf q f (cellsOf q S (q + i) i) → f .coefficient ≡ number q (leadF (symbols q) q S i)
   unfolding leadF
   lead-f i f e =
       e .coefficient-is
       ∙ ap (λ (n : ℕ). number q (cellsOf q S (q + i) i n)) (degree-f i f e)
       ∙ ap (number q) (sym (upper-cell q S (q + i) i (degreeF (symbols q) q S i)))
 
-  pub degree-g : (i : ℕ) (g : Leading) → LeadingOf q g (cellsOf q S i (q + i)) → g .degree ≡ degreeG (symbols q) q S i
+  pub degree-g : (i : ℕ) (g : RowLead) → LeadingOf q g (cellsOf q S i (q + i)) → g .degree ≡ degreeG (symbols q) q S i
   unfolding degreeG degreeOf
   degree-g i g e = e .degree-is ∙ degree-cong _ _ (λ n. ap (number q) (sym (lower-cell q S i i n))) (width q)
 
-  pub lead-g : (i : ℕ) (g : Leading) → LeadingOf q g (cellsOf q S i (q + i)) → g .coefficient ≡ number q (leadG (symbols q) q S i)
+  pub lead-g : (i : ℕ) (g : RowLead) → LeadingOf q g (cellsOf q S i (q + i)) → g .coefficient ≡ number q (leadG (symbols q) q S i)
   unfolding leadG
   lead-g i g e =
       e .coefficient-is
@@ -61,7 +61,7 @@ unfolding looked
 looked-cell q S i partner k = lower-cell q S (q + i) partner (positivePart k)
 
 -- what the code gives for w_i and μ_i, by the kind of the step and the sign of k
-module _ (q : ℕ) (known : Known q) (k : ℤ) (named : Named) (b : Sym q) where
+module _ (q : ℕ) (known : Known q) (k : ℤ) (named : NamedSymbol) (b : Sym q) where
   infixl 70 _⊗_
   open Symbols (symbols q) using (_⊗_, inverse)
 
@@ -88,7 +88,7 @@ module _ (q : ℕ) (known : Known q) (k : ℤ) (named : Named) (b : Sym q) where
   unfolding inUnvotedStep
   unvoted-whole t ew em = record { w = ew ∙ (rw (t, minus-same q b)); μ = em ∙ sym (laws-of q known .number-one) }
 
-module _ (q : ℕ) (S : Polynomials (symbols q) q) (u s i : ℕ) (f g : Leading) (ef : LeadingOf q f (cellsOf q S (q + i) i))
+module _ (q : ℕ) (S : Polynomials (symbols q) q) (u s i : ℕ) (f g : RowLead) (ef : LeadingOf q f (cellsOf q S (q + i) i))
     (eg : LeadingOf q g (cellsOf q S ((q * f .degree + (q + 1) * i + s) % q) (q + (q * f .degree + (q + 1) * i + s) % q))) where
   abbrev total : ℕ
   total = q * f .degree + (q + 1) * i + s
@@ -119,7 +119,7 @@ module _ (q : ℕ) (S : Polynomials (symbols q) q) (u s i : ℕ) (f g : Leading)
     made : pair .w ≡ number q (P .w) → pair .mu ≡ number q (P .μ) → NumbersOf q pair P
     made ew em = record { partner = ep ∙ partner-is; c = ec ∙ c-is; w = ew; μ = em; ν = en ∙ ν-is }
 
-    module _ (named : Named) (ew : pair .w ≡ named .w) (em : pair .mu ≡ named .mu) where
+    module _ (named : NamedSymbol) (ew : pair .w ≡ named .w) (em : pair .mu ≡ named .mu) where
       -- a voted step
       pub pair-voted : isVoted q u s ≡ true → NamedAs q named (inVotedStep (symbols q) q (kOf q total) b (leadF (symbols q) q S i)) → NumbersOf q pair P
       unfolding pairing partnerOf

@@ -8,7 +8,7 @@ use lib.ListN.{getD}
 use Rattle.symbols.specs.Rule.{symbols, number}
 use Rattle.published.specs.Pairing.{Pairing, Naming}
 use Rattle.stepvotes.specs.declared.pairs.Pair.{Pair}
-use Rattle.stepvotes.specs.declared.pairs.Named.{Named}
+use Rattle.stepvotes.specs.declared.pairs.NamedSymbol.{NamedSymbol}
 
 -- the bounds that the code relies on
 pub record Held (q : ℕ) (pair : Pair) : Type 0 where
@@ -16,7 +16,7 @@ pub record Held (q : ℕ) (pair : Pair) : Type 0 where
   pub c : natAbs (pair .c) ≤ 2000
 
 -- the numbers of w_i and μ_i
-pub record NamedAs (q : ℕ) (named : Named) (N : Naming (symbols q) q) : Type 0 where
+pub record NamedAs (q : ℕ) (named : NamedSymbol) (N : Naming (symbols q) q) : Type 0 where
   pub w : named .w ≡ number q (N .w)
   pub μ : named .mu ≡ number q (N .μ)
 

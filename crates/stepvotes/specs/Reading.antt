@@ -6,7 +6,7 @@ use Rattle.algebra.specs.Symbols.{Symbols}
 use Rattle.symbols.specs.Rule.{symbols, number}
 use Rattle.published.specs.Start.{width}
 use Rattle.published.specs.Pairing.{degree}
-use Rattle.stepvotes.specs.declared.reading.Leading.{Leading}
+use Rattle.stepvotes.specs.declared.reading.RowLead.{RowLead}
 
 module _ (q : ℕ) where
   open Symbols (symbols q) using (K, 𝟘)
@@ -16,6 +16,6 @@ module _ (q : ℕ) where
     pub zeros : (i : ℕ) → h ≤ i → i < width q → row i ≡ 𝟘
 
   -- the degree of a row, and the symbol there
-  pub record LeadingOf (lead : Leading) (row : ℕ → K) : Type 0 where
+  pub record LeadingOf (lead : RowLead) (row : ℕ → K) : Type 0 where
     pub degree-is : lead .degree ≡ degree (λ i. number q (row i)) (width q)
     pub coefficient-is : lead .coefficient ≡ number q (row (lead .degree))

@@ -5,7 +5,7 @@ mod votes;
 
 pub use pairs::Pair;
 pub use pairs::pairs_of;
-pub use reading::Leading;
+pub use reading::RowLead;
 pub use reading::leading_of;
 pub use votes::is_voted;
 pub use votes::vote_of;

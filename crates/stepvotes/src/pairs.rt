@@ -23,7 +23,7 @@ pub struct Pair {
 }
 
 // w_i and μ_i.
-struct Named {
+struct NamedSymbol {
     w: u8,
     mu: u8,
 }
@@ -62,7 +62,7 @@ fn in_voted_step(
     partner: usize,
     k: i64,
     lead: u8,
-) -> Named
+) -> NamedSymbol
     requires { ⌜ Area q (length (now work)) × HasProducts q (now table) ⌝ }
     requires { ⌜ (i < q) × (partner < q) × (natAbs k ≤ 1000) ⌝ }
     ensures { λ named. ⌜ ((S : Polynomials (symbols q) q) (μ : Sym q) → Narrow q (cellsOf q S) → Starts q (now (work .entry)) (cellsOf q S)
@@ -70,25 +70,25 @@ fn in_voted_step(
 {
     if 0 <= k {
         let b = looked_at(work, q, i, partner, k);
-        return Named {
+        return NamedSymbol {
             w: symbols::product_in(table, q, b, symbols::inverse(q, lead)),
             mu: lead,
         };
     }
-    Named { w: 0, mu: 1 }
+    NamedSymbol { w: 0, mu: 1 }
 }
 
 // w_i and μ_i in a step that does not.
-fn in_unvoted_step(work: &[u8], q: usize, i: usize, partner: usize, k: i64) -> Named
+fn in_unvoted_step(work: &[u8], q: usize, i: usize, partner: usize, k: i64) -> NamedSymbol
     requires { ⌜ Area q (length (now work)) ⌝ }
     requires { ⌜ (i < q) × (partner < q) × (natAbs k ≤ 1000) ⌝ }
     ensures { λ named. ⌜ ((S : Polynomials (symbols q) q) → Narrow q (cellsOf q S) → Starts q (now (work .entry)) (cellsOf q S)
         → NamedAs q named (inUnvotedStep (symbols q) q k (looked (symbols q) q S i partner k))) ⌝ }
 {
     if k < 0 {
-        return Named { w: 0, mu: 1 };
+        return NamedSymbol { w: 0, mu: 1 };
     }
-    Named {
+    NamedSymbol {
         w: looked_at(work, q, i, partner, k),
         mu: 1,
     }

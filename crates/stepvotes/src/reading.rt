@@ -8,13 +8,13 @@ ghost use Rattle.workarea.specs.Area.{Area, Cells, Starts, Narrow};
 ghost use Rattle.stepvotes.specs.Reading.{Short, LeadingOf};
 
 // A row's degree and the symbol there; both 0 for a row of zeros.
-pub struct Leading {
+pub struct RowLead {
     pub degree: usize,
     pub coefficient: u8,
 }
 
 // The leading symbol of row r of polynomial p, which has no symbol but zero from `height` on.
-pub fn leading_below(work: &[u8], q: usize, p: usize, r: usize, height: usize) -> Leading
+pub fn leading_below(work: &[u8], q: usize, p: usize, r: usize, height: usize) -> RowLead
     requires { ⌜ Area q (length (now work)) ⌝ }
     requires { ⌜ (p < 2 * q) × (r < 2 * q) × (height ≤ width q) ⌝ }
     ensures { λ lead. ⌜ lead .degree < width q ⌝ }
@@ -25,20 +25,20 @@ pub fn leading_below(work: &[u8], q: usize, p: usize, r: usize, height: usize) -
     while 1 < i {
         i -= 1;
         if work[at + i] != 0 {
-            return Leading {
+            return RowLead {
                 degree: i,
                 coefficient: work[at + i],
             };
         }
     }
-    Leading {
+    RowLead {
         degree: 0,
         coefficient: work[at],
     }
 }
 
 // The leading symbol of any row.
-pub fn leading_of(work: &[u8], q: usize, p: usize, r: usize) -> Leading
+pub fn leading_of(work: &[u8], q: usize, p: usize, r: usize) -> RowLead
     requires { ⌜ Area q (length (now work)) ⌝ }
     requires { ⌜ (p < 2 * q) × (r < 2 * q) ⌝ }
     ensures { λ lead. ⌜ lead .degree < width q ⌝ }
