@@ -117,13 +117,7 @@ pub fn add_product(
 
 // z becomes z + ρ·x^a·y^b for these powers a and b, where `products` is the table row of ρ, in all 2q polynomials, whose upper
 // rows have no more symbols than `heights` says.
-pub fn replace_z(
-    work: &mut [u8],
-    q: usize,
-    heights: &[usize],
-    powers: Powers,
-    products: [u8; 16],
-)
+pub fn replace_z(work: &mut [u8], q: usize, heights: &[usize], powers: Powers, products: [u8; 16])
     requires { ⌜ Area q (length (now work)) ⌝ }
     requires { ⌜ 2 * q ≤ length (now heights) ⌝ }
     requires { ⌜ (powers .y < q) × (powers .x ≤ 1000) ⌝ }

@@ -12,7 +12,7 @@ use lib.Dec.{eqb, ltb}
 use lib.ListN.{getD}
 use borrow.Author.Tests.{eq-eqb, ne-eqb, le-ltb}
 use Rattle.algebra.specs.Symbols.{Symbols, same}
-use Rattle.algebra.specs.Functions.{shift, timesX}
+use Rattle.algebra.specs.Functions.{timesX}
 use Rattle.lists.specs.Tables.{tab}
 use Rattle.lists.proofs.Numbers.{lt-or-ge, same-or-not}
 use Rattle.lists.proofs.Tables.{getD-tab}

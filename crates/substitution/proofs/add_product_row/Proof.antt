@@ -24,14 +24,16 @@ add-row-requires : tie.Need-add-row-requires
 add-row-requires c κs =
     let s = c .before .before .before .before .before .before .before in
     let a = s .pre .1 .0 in
-    let w = c .before .before .before .before .before .source-of .ensures in
-    (s .pre .0, record {
-      to-polynomial = a .to-polynomial;
-      to-row = omega (arith, a .to-row);
-      from-polynomial = a .from-polynomial;
-      from-row = omega (arith, a .from-row);
-      differ = λ e d. a .rows _ _ (s .pre .1 .1 .0) (w .2) e d;
-    })
+    let w = c .before .before .before .before .before .source-of .ensures in (
+      s .pre .0,
+      record {
+        to-polynomial = a .to-polynomial;
+        to-row = omega (arith, a .to-row);
+        from-polynomial = a .from-polynomial;
+        from-row = omega (arith, a .from-row);
+        differ = λ e d. a .rows _ _ (s .pre .1 .1 .0) (w .2) e d;
+      },
+    )
 
 same-length : tie.Need-same-length
 same-length c = search needs
@@ -71,14 +73,16 @@ subtract-row-requires : tie.Need-subtract-row-requires
 subtract-row-requires c κs =
     let s = c .before .before .before .before .before .before .before .before .before .before .before .before .before .before in
     let a = s .pre .1 .0 in
-    let some = c .before .before .before .if1 .left in
-    (still (s .pre .0) (omega arith), record {
-      to-polynomial = a .to-polynomial;
-      to-row = omega (arith, a .to-row);
-      from-polynomial = a .from-polynomial;
-      from-row = omega (arith, a .from-row);
-      differ = λ e d. a .rows _ _ (s .pre .1 .1 .0) (omega arith) e d;
-    })
+    let some = c .before .before .before .if1 .left in (
+      still (s .pre .0) (omega arith),
+      record {
+        to-polynomial = a .to-polynomial;
+        to-row = omega (arith, a .to-row);
+        from-polynomial = a .from-polynomial;
+        from-row = omega (arith, a .from-row);
+        differ = λ e d. a .rows _ _ (s .pre .1 .1 .0) (omega arith) e d;
+      },
+    )
 
 same-length-3 : tie.Need-same-length-3
 same-length-3 c = search needs

@@ -19,9 +19,10 @@ subtract-bytes-requires c κs =
     let run = c .before .run-of .ensures in
     let to = row-fits _ _ (s .pre .0) (rows .to-polynomial) (rows .to-row) in
     let from = row-fits _ _ (s .pre .0) (rows .from-polynomial) (rows .from-row) in
-    let apart = rows-differ _ _ _ _ _ (rows .to-row) (rows .from-row) (rows .differ) in
-    ((omega (arith, run .fits), omega (arith, run .short, run .other)),
-    ⊎-elim (λ a. inl (omega (arith, run .fits, run .other))) (λ a. inr (omega (arith, run .starts, run .short, run .other))) apart)
+    let apart = rows-differ _ _ _ _ _ (rows .to-row) (rows .from-row) (rows .differ) in (
+      (omega (arith, run .fits), omega (arith, run .short, run .other)),
+      ⊎-elim (λ a. inl (omega (arith, run .fits, run .other))) (λ a. inr (omega (arith, run .starts, run .short, run .other))) apart,
+    )
 
 same-length : tie.Need-same-length
 same-length c = search needs
