@@ -14,7 +14,7 @@ use Rattle.algebra.proofs.OnCurve.{OnCurve}
 use Rattle.algebra.proofs.Interpolation.{Columns}
 use Rattle.lists.specs.Tables.{from, tab, keep}
 use Rattle.lists.proofs.Numbers.{same-or-apart}
-use Rattle.symbols.specs.Rule.{Known, size, reducedBy, twice, chosen, product, Below, into, symbols}
+use Rattle.symbols.specs.Rule.{Known, size, reducedBy, sumOf, differenceOf, twice, chosen, product, Below, into, symbols}
 use Rattle.symbols.proofs.Tested.{every, every-at, all, all-at, Numbered, same-eq}
 use Rattle.symbols.proofs.FieldLaws.{laws-of}
 use Rattle.curve.specs.Points.{Point, onCurve, pair, points, pointAt}
@@ -63,7 +63,7 @@ module _ (𝓢 : Symbols) (q : ℕ) where
 
 -- opens all that the tests compute with
 unfoldable computing : Unit {0}
-unfolding tests every all same power from tab keep size reducedBy twice chosen product Below into symbols onCurve pair points pointCount
+unfolding tests every all same power from tab keep size reducedBy sumOf differenceOf twice chosen product Below into symbols onCurve pair points pointCount
 computing = tt
 
 -- the tests pass for q = 2 and for q = 4

@@ -10,7 +10,7 @@ use lib.Dec.{T, eqb, eqb→eq}
 use lib.ListN.{getD}
 use Rattle.algebra.specs.Symbols.{same, power}
 use Rattle.lists.specs.Tables.{from, tab, keep}
-use Rattle.symbols.specs.Rule.{Known, size, reducedBy, twice, chosen, product, Below, into, symbols, number}
+use Rattle.symbols.specs.Rule.{Known, size, reducedBy, sumOf, differenceOf, twice, chosen, product, Below, into, symbols, number}
 use Rattle.symbols.proofs.Tested.{all, all-at}
 use Rattle.curve.specs.Points.{Point, onCurve, pair, points, pointAt}
 use Rattle.curve.specs.Ordinates.{sets4, setPlace, sets2, ordinateSet, ordinatesAbove}
@@ -34,7 +34,7 @@ tested q Ps =
 
 -- opens all that the tests compute with
 unfoldable computing : Unit {0}
-unfolding tested all same power from tab keep size reducedBy twice chosen product Below into symbols onCurve pair points sets4 setPlace sets2 ordinateSet ordinatesAbove
+unfolding tested all same power from tab keep size reducedBy sumOf differenceOf twice chosen product Below into symbols onCurve pair points sets4 setPlace sets2 ordinateSet ordinatesAbove
 computing = tt
 
 -- the sets pass for q = 2 and for q = 4

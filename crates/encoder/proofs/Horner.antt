@@ -5,13 +5,12 @@ use mathlib.Core.List.{List}
 use Prim.Native.Nat.{ℕ, suc, _+_, _-_, _%_, _<_}
 use native.Mathlib.Nat.{add-zero, zero-add, add-suc, suc-add, sub-zero}
 use native.Mathlib.Omega.{arith}
-use lib.Bits.{bitXor}
 use lib.ListN.{length, getD}
 use Rattle.algebra.specs.Symbols.{Symbols, Laws}
 use Rattle.algebra.specs.Functions.{valueIn}
 use Rattle.algebra.proofs.Ring.{add-comm, add-zero as plus-zero, mul-zero}
 use Rattle.algebra.proofs.Polynomials.{valueIn-zero, valueIn-head, valueIn-cong}
-use Rattle.symbols.specs.Rule.{Known, Sym, symbols, number, symbol}
+use Rattle.symbols.specs.Rule.{Known, Sym, sumOf, symbols, number, symbol}
 use Rattle.symbols.specs.Tables.{productRow}
 use Rattle.symbols.proofs.FieldLaws.{laws-of}
 use Rattle.symbols.proofs.Bytes.{number-of-sum}
@@ -52,31 +51,31 @@ module _ {𝓢 : Symbols} {q : ℕ} (𝓛 : Laws 𝓢 q) where
   part-whole a x n = valueIn-cong 𝓢 q n x (λ k h. ap a (zero-add k))
 
 -- what a loop has after it passed the coefficients from number i on
-abbrev pub IsPart : List ℕ → List ℕ → ℕ → ℕ → Type 0
-IsPart products coefficients i value =
-    (q a : ℕ) (α : ℕ → Sym q) → Known q → products ≡ productRow q a → Holds q α (length coefficients) coefficients
+abbrev pub IsPart : ℕ → List ℕ → List ℕ → ℕ → ℕ → Type 0
+IsPart q products coefficients i value =
+    (a : ℕ) (α : ℕ → Sym q) → Known q → products ≡ productRow q a → Holds q α (length coefficients) coefficients
     → value ≡ number q (part (symbols q) q α (symbol q a) i (length coefficients - i))
 
 -- the last coefficient
-pub horner-last : (products coefficients : List ℕ) → 0 < length coefficients
-    → IsPart products coefficients (length coefficients - 1) (getD coefficients (length coefficients - 1) 0)
-horner-last products coefficients h q a α k e held =
+pub horner-last : (q : ℕ) (products coefficients : List ℕ) → 0 < length coefficients
+    → IsPart q products coefficients (length coefficients - 1) (getD coefficients (length coefficients - 1) 0)
+horner-last q products coefficients h a α k e held =
     let i = length coefficients - 1 in
     let one : length coefficients - i ≡ 1 = omega arith in
     rw one (held i (omega arith) ∙ ap (number q) (part-last (laws-of q k) α (symbol q a) i))
 
 -- one more
-pub horner-next : (products coefficients : List ℕ) (i value : ℕ) → 0 < i → i < length coefficients
-    → IsPart products coefficients i value
-    → IsPart products coefficients (i - 1) (bitXor (getD products (value % 16) 0) (getD coefficients (i - 1) 0))
-horner-next products coefficients i value h l known q a α k e held =
+pub horner-next : (q : ℕ) (products coefficients : List ℕ) (i value : ℕ) → 0 < i → i < length coefficients
+    → IsPart q products coefficients i value
+    → IsPart q products coefficients (i - 1) (sumOf q (getD products (value % 16) 0) (getD coefficients (i - 1) 0))
+horner-next q products coefficients i value h l known a α k e held =
     let tail = part (symbols q) q α (symbol q a) i (length coefficients - i) in
     let up : suc (i - 1) ≡ i = omega arith in
     let more : suc (length coefficients - i) ≡ length coefficients - (i - 1) = omega arith in
     let next = part-next (laws-of q k) α (symbol q a) (i - 1) (length coefficients - i) in
     rw (
       e,
-      known q a α k e held,
+      known a α k e held,
       row-number q k a tail,
       held (i - 1) (omega arith),
       number-of-sum q k
@@ -85,7 +84,7 @@ horner-next products coefficients i value h l known q a α k e held =
     (ap (number q) (rw (up, more) at next))
 
 -- all
-pub horner-all : (products coefficients : List ℕ) (value : ℕ) → IsPart products coefficients 0 value
-    → IsValue products coefficients value
-horner-all products coefficients value known q a α k e held =
-    (rw sub-zero at (known q a α k e held)) ∙ ap (number q) (part-whole (laws-of q k) α (symbol q a) (length coefficients))
+pub horner-all : (q : ℕ) (products coefficients : List ℕ) (value : ℕ) → IsPart q products coefficients 0 value
+    → IsValue q products coefficients value
+horner-all q products coefficients value known a α k e held =
+    (rw sub-zero at (known a α k e held)) ∙ ap (number q) (part-whole (laws-of q k) α (symbol q a) (length coefficients))

@@ -26,14 +26,14 @@ fibre-within q a h = row-fits q h
 module _ (q : ℕ) (k : Known q) (products : List ℕ) (value : ℕ) where
   -- what Horner's rule makes of n bytes that are symbols' numbers
   value-of : (a n : ℕ) (α : ℕ → Sym q) (bytes : List ℕ) → length bytes ≡ n → products ≡ productRow q a → Holds q α n bytes
-      → IsValue products bytes value → value ≡ number q (valueIn (symbols q) q n α (symbol q a))
+      → IsValue q products bytes value → value ≡ number q (valueIn (symbols q) q n α (symbol q a))
   value-of a n α bytes long e held is =
-      is q a α k e (λ i h. held i (rw long at h)) ∙ ap (λ m. number q (valueIn (symbols q) q m α (symbol q a))) long
+      is a α k e (λ i h. held i (rw long at h)) ∙ ap (λ m. number q (valueIn (symbols q) q m α (symbol q a))) long
 
   -- the places of y^j give the value at x of the polynomial that stands there
   pub column-value : (f : Fn (symbols q) q) (places : List ℕ) (x j n : ℕ) → j < q → n ≤ 16 → length places ≡ 64
       → HoldsFunction q f places
-      → products ≡ productRow q x → IsValue products (take n (drop (j * 16) places)) value → value ≡ columnNumber q f n x j
+      → products ≡ productRow q x → IsValue q products (take n (drop (j * 16) places)) value → value ≡ columnNumber q f n x j
   unfolding columnNumber
   column-value f places x j n hj hn long held e is =
       value-of x n (f j) (take n (drop (j * 16) places)) (rw (length-take, length-drop) (omega (arith, known-high q k))) e
@@ -41,7 +41,7 @@ module _ (q : ℕ) (k : Known q) (products : List ℕ) (value : ℕ) where
 
   -- the values at x give the value at y number b above x
   pub fibre-value : (v : ℕ → Sym q) (values : List ℕ) (x b : ℕ) → x < q * q → b < q → length values ≡ 4 → Holds q v q values
-      → products ≡ productRow q (getD (ordinatesAbove q x) b 0) → IsValue products (take q values) value
+      → products ≡ productRow q (getD (ordinatesAbove q x) b 0) → IsValue q products (take q values) value
       → value ≡ fibreNumber q v x b
   unfolding fibreNumber
   fibre-value v values x b hx hb long held e is =

@@ -20,9 +20,9 @@ abbrev pub Holds : (q : ℕ) → (ℕ → Sym q) → ℕ → List ℕ → Type 0
 Holds q α n bytes = (i : ℕ) → i < n → getD bytes i 0 ≡ number q (α i)
 
 -- with the products of a, whatever they are, the value at a of the polynomial with these coefficients
-abbrev pub IsValue : List ℕ → List ℕ → ℕ → Type 0
-IsValue products coefficients value =
-    (q a : ℕ) (α : ℕ → Sym q) → Known q → products ≡ productRow q a → Holds q α (length coefficients) coefficients
+abbrev pub IsValue : ℕ → List ℕ → List ℕ → ℕ → Type 0
+IsValue q products coefficients value =
+    (a : ℕ) (α : ℕ → Sym q) → Known q → products ≡ productRow q a → Holds q α (length coefficients) coefficients
     → value ≡ number q (valueIn (symbols q) q (length coefficients) α (symbol q a))
 
 -- the message's byte for the weight of x^i y^j, if that is below s

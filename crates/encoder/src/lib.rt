@@ -22,15 +22,15 @@ pub enum Encoded {
 }
 
 // Horner's rule: the value of the polynomial with these coefficients at the symbol whose products these are.
-fn value_in(products: &[u8; 16], coefficients: &[u8]) -> u8
+fn value_in(q: usize, products: &[u8; 16], coefficients: &[u8]) -> u8
     requires { ⌜ 0 < length (now coefficients) ⌝ }
-    ensures { λ r. ⌜ IsValue (now (products .entry)) (now (coefficients .entry)) r ⌝ }
+    ensures { λ r. ⌜ IsValue q (now (products .entry)) (now (coefficients .entry)) r ⌝ }
 {
     let mut i = coefficients.len() - 1;
     let mut value = coefficients[i];
     while 0 < i {
         i -= 1;
-        value = products[(value % 16) as usize] ^ coefficients[i];
+        value = symbols::sum(q, products[(value % 16) as usize], coefficients[i]);
     }
     value
 }
@@ -65,7 +65,7 @@ fn column(table: &[u8], q: usize, x: u8, places: &[u8], width: usize) -> [u8; 4]
     while j < q {
         let start = j * 16;
         let end = start + width;
-        values[j] = value_in(&products, &places[start..end]);
+        values[j] = value_in(q, &products, &places[start..end]);
         j += 1;
     }
     values
@@ -81,7 +81,7 @@ fn fill_fibre(table: &[u8], q: usize, x: usize, values: &[u8], row: &mut [u8])
     let mut b = 0;
     while b < q {
         let products = symbols::products_in(table, q, ordinates[b]);
-        row[start + b] = value_in(&products, &values[..q]);
+        row[start + b] = value_in(q, &products, &values[..q]);
         b += 1;
     }
 }

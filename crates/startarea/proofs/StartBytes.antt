@@ -1,4 +1,4 @@
--- The bytes of the start: an area of zeros, single symbols, and a row with a multiple of sixteen values added.
+-- The bytes of the start: an area of zeros, single symbols, and a row with a multiple of sixteen values subtracted.
 -- Assumes nothing.
 use mathlib.Core.Path.{_≡_, refl, sym, ap, _∙_}
 use mathlib.Core.List.{List, _++_}
@@ -15,7 +15,7 @@ use Rattle.symbols.proofs.FieldLaws.{laws-of}
 use Rattle.published.specs.Start.{width}
 use Rattle.published.specs.Picture.{areaSize, layout}
 use Rattle.workarea.specs.Area.{Area, rowPlace, Cells, numbers, shown, withRows}
-use Rattle.startarea.specs.StartArea.{plusValue, plusValues, blank}
+use Rattle.startarea.specs.StartArea.{minusValue, minusValues, blank}
 use Rattle.workarea.proofs.Cells.{size-is, row-fits, shown-read, shown-put}
 use Rattle.workarea.proofs.Sizes.{sizes, row-small}
 
@@ -35,17 +35,17 @@ pub blank-cleared : (q : ℕ) → Known q → (l m : List ℕ) (n : ℕ) → n �
 blank-cleared q known l m n size cleared =
     cleared ∙ ap (λ (k : ℕ). replicate k 0 ++ drop k l) size ∙ ap (λ (w : List ℕ). w ++ drop (areaSize q) l) (blank-shown q known)
 
--- no value is added yet
-pub values-none : (l : List ℕ) (to : ℕ) (values products : List ℕ) → plusValues l to 0 values products ≡ l
-unfolding plusValues
-values-none l to values products = put-none l to (plusValue l to values products)
+-- no value is subtracted yet
+pub values-none : (q : ℕ) (l : List ℕ) (to : ℕ) (values products : List ℕ) → minusValues q l to 0 values products ≡ l
+unfolding minusValues
+values-none q l to values products = put-none l to (minusValue q l to values products)
 
--- one value more is added
-pub values-more : (l w : List ℕ) (to : ℕ) (values products : List ℕ) (i : ℕ) → w ≡ plusValues l to i values products
-    → set w (to + i) (plusValue w to values products i) ≡ plusValues l to (i + 1) values products
-unfolding plusValues
-values-more l w to values products i e =
-    let f = plusValue l to values products in
+-- one value more is subtracted
+pub values-more : (q : ℕ) (l w : List ℕ) (to : ℕ) (values products : List ℕ) (i : ℕ) → w ≡ minusValues q l to i values products
+    → set w (to + i) (minusValue q w to values products i) ≡ minusValues q l to (i + 1) values products
+unfolding minusValues
+values-more q l w to values products i e =
+    let f = minusValue q l to values products in
     let here : getD (put l to i f) (to + i) 0 ≡ getD l (to + i) 0 = put-out l to i f (to + i) 0 (inr (omega arith)) in
     rw (e, here) (put-more l to i f)
 

@@ -1,4 +1,4 @@
--- The start: the first of each kind with h added to f_0, and that all of both kinds are the polynomials before the first step.
+-- The start: the first of each kind with h subtracted from f_0, and that all of both kinds are the polynomials before the first step.
 -- Assumes nothing.
 use mathlib.Core.Path.{_≡_, sym, ap, _∙_}
 use mathlib.Core.List.{List, _++_, map}
@@ -8,16 +8,15 @@ use native.Mathlib.Nat.{mod-lt, div-lt-iff-lt-mul, add-zero}
 use native.Mathlib.Omega.{arith}
 use Rattle.algebra.specs.Symbols.{Symbols}
 use Rattle.algebra.specs.Functions.{timesYs}
-use Rattle.algebra.proofs.Ring.{sub-def, zero-add}
+use Rattle.algebra.proofs.Ring.{ring}
 use Rattle.lists.proofs.Numbers.{same-or-not}
 use Rattle.symbols.specs.Rule.{Known, symbols, symbol}
 use Rattle.symbols.proofs.FieldLaws.{laws-of}
-use Rattle.symbols.proofs.Bytes.{minus-is-plus}
 use Rattle.published.specs.Start.{h, table, ofTable, vanishing, one, negated, start}
 use Rattle.published.specs.Picture.{picture}
 use Rattle.published.proofs.StartLeads.{table-whole, start-held}
 use Rattle.workarea.specs.Area.{Cells, cellsOf, shown, withRows}
-use Rattle.startarea.specs.StartArea.{columnsOf, rowsPlus, blank, firsts, begun}
+use Rattle.startarea.specs.StartArea.{columnsOf, rowsMinus, blank, firsts, begun}
 use Rattle.workarea.proofs.Cells.{picture-is, shown-same, rows-in, rows-out, row-here, row-there}
 use Rattle.workarea.proofs.Sizes.{sizes}
 use Rattle.startarea.proofs.StartColumns.{columns-are-h}
@@ -25,21 +24,21 @@ use Rattle.startarea.proofs.StartFirsts.{one-else, vanishing-else}
 use Rattle.startarea.proofs.StartKinds.{each-row, begun-in, begun-out, g-upper, g-lower, f-upper, f-lower, begun-else}
 
 module _ (q : ℕ) (known : Known q) where
-  infixl 65 _⊕_
-  open Symbols (symbols q) using (K, 𝟘, _⊕_, minus)
+  infixl 65 _⊖_
+  open Symbols (symbols q) using (K, 𝟘, _⊖_, minus)
 
   module _ (row : List ℕ) where
-    -- the coefficients of h, and the area after h was added to the first of each kind
+    -- the coefficients of h, and the area after h was subtracted in the first of each kind
     abbrev H : List (List K)
     H = table (symbols q) q (h (symbols q) q (map (symbol q) row))
 
     abbrev S : Cells q
-    S = rowsPlus q q q q (columnsOf q row (q * q)) (firsts q)
+    S = rowsMinus q q q q (columnsOf q row (q * q)) (firsts q)
 
-    -- what no row was added to
+    -- what no row was subtracted from
     plain : (p r k : ℕ) → (p ≡ q → r < q) → S p r k ≡ firsts q p r k
-    unfolding rowsPlus
-    plain p r k out = rows-out q q q q (λ j k. firsts q q (q + j) k ⊕ columnsOf q row (q * q) j k) (firsts q) p r k (λ e. inl (out e))
+    unfolding rowsMinus
+    plain p r k out = rows-out q q q q (λ j k. firsts q q (q + j) k ⊖ columnsOf q row (q * q) j k) (firsts q) p r k (λ e. inl (out e))
 
     -- and what was left blank
     untouched : (p r k : ℕ) → (p ≡ 0 → r ≡ q → ⊥) → (p ≡ q → r ≡ 0 → ⊥) → firsts q p r k ≡ 𝟘
@@ -74,19 +73,17 @@ module _ (q : ℕ) (known : Known q) where
         (λ (ne : j ≡ 0 → ⊥). untouched q (0 + j) k (λ e z. omega (arith, positive)) (λ e z. ne (omega arith)) ∙ sym (one-else q known j k ne))
         (same-or-not j 0)
 
-    -- its lower part, h; minus equals plus
+    -- its lower part, -h
     f-lower-first : (j k : ℕ) → j < q → S q (q + j) k ≡ negated (symbols q) q (ofTable (symbols q) q H) j k
-    unfolding rowsPlus negated
+    unfolding rowsMinus negated
     f-lower-first j k hj =
-        rows-in q q q q (λ j k. firsts q q (q + j) k ⊕ columnsOf q row (q * q) j k) (firsts q) j k hj
-        ∙ ap (λ (y : K). y ⊕ columnsOf q row (q * q) j k) (untouched q (q + j) k (λ e z. omega (arith, positive)) (λ e z. omega (arith, positive)))
-        ∙ zero-add (laws-of q known) (columnsOf q row (q * q) j k)
-        ∙ columns-are-h q known row j k
-        ∙ sym (table-whole (symbols q) q (map (symbol q) row) j k hj)
-        ∙ itself (ofTable (symbols q) q H j k)
+        rows-in q q q q (λ j k. firsts q q (q + j) k ⊖ columnsOf q row (q * q) j k) (firsts q) j k hj
+        ∙ ap (λ (y : K). y ⊖ columnsOf q row (q * q) j k) (untouched q (q + j) k (λ e z. omega (arith, positive)) (λ e z. omega (arith, positive)))
+        ∙ less (columnsOf q row (q * q) j k)
+        ∙ ap minus (columns-are-h q known row j k ∙ sym (table-whole (symbols q) q (map (symbol q) row) j k hj))
       where
-        itself : (a : K) → a ≡ minus a
-        itself a = sym (zero-add (laws-of q known) a) ∙ sym (minus-is-plus q 𝟘 a) ∙ sub-def (laws-of q known) 𝟘 a ∙ zero-add (laws-of q known) (minus a)
+        less : (a : K) → 𝟘 ⊖ a ≡ minus a
+        less a = simp (ring, laws-of q known)
 
     -- the first of each kind, with h
     first-cells : (p r k : ℕ) → p < 2 * q → r < 2 * q → S p r k ≡ begun q H 1 p r k

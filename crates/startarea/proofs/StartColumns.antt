@@ -7,20 +7,19 @@ use mathlib.Core.Logic.{⊎-elim}
 use Prim.Native.Nat.{ℕ, _+_, _-_, _*_, _%_, _<_, _≤_}
 use native.Mathlib.Numerals.{add-one}
 use native.Mathlib.Omega.{arith}
-use lib.Bits.{bitXor}
 use lib.Dec.{eqb}
 use lib.ListN.{getD, replicate, getD-replicate, List·getD-map}
 use borrow.Author.Tests.{lt-ltb, le-ltb}
 use Rattle.algebra.specs.Symbols.{Symbols, power, sum}
 use Rattle.algebra.specs.Interpolation.{unit, xPart, yPart}
-use Rattle.algebra.proofs.Ring.{ring, add-zero}
+use Rattle.algebra.proofs.Ring.{ring, mul-add}
 use Rattle.algebra.proofs.Sums.{sum-suc, sum-zero, sum-cong, sum-none, sum-mul, sum-rows}
 use Rattle.lists.specs.Tables.{put}
 use Rattle.lists.proofs.Numbers.{lt-or-ge, row-fits}
-use Rattle.symbols.specs.Rule.{Known, symbols, number, symbol}
+use Rattle.symbols.specs.Rule.{differenceOf, Known, symbols, number, symbol}
 use Rattle.symbols.specs.Tables.{productRow}
 use Rattle.symbols.proofs.FieldLaws.{laws-of}
-use Rattle.symbols.proofs.Bytes.{number-of-sum, minus-is-plus, cube-small}
+use Rattle.symbols.proofs.Bytes.{number-of-difference, cube-small}
 use Rattle.curve.specs.Points.{pointAt}
 use Rattle.curve.specs.Codes.{pointCount}
 use Rattle.curve.specs.Ordinates.{ordinatesAbove}
@@ -29,16 +28,17 @@ use Rattle.curve.proofs.OrdinateSets.{ordinate-at}
 use Rattle.published.specs.Start.{width, term, h}
 use Rattle.published.proofs.StartLeads.{h-within, h-past}
 use Rattle.workarea.specs.Area.{rowPlace, Cells, shown, Turns, withRows}
-use Rattle.startarea.specs.StartArea.{plusValue, plusValues, Holds, partOf, plusPart, columnSum, columnOf, columnsOf}
+use Rattle.startarea.specs.StartArea.{minusValue, minusValues, Holds, plusPart, columnSum, columnOf, columnsOf}
 use Rattle.workarea.proofs.Cells.{shown-read}
 use Rattle.workarea.proofs.Sizes.{sizes}
 use Rattle.workarea.proofs.RowLaws.{multiplies}
 use Rattle.startarea.proofs.StartBytes.{shown-places}
+use Rattle.startarea.proofs.StartFirsts.{minus-one, less-none}
 
 module _ (q : ℕ) (known : Known q) where
-  infixl 65 _⊕_
+  infixl 65 _⊕_ _⊖_
   infixl 70 _⊗_
-  open Symbols (symbols q) using (K, 𝟘, 𝟙, _⊕_, _⊗_)
+  open Symbols (symbols q) using (K, 𝟘, 𝟙, _⊕_, _⊖_, _⊗_)
 
   -- bytes hold the numbers of equal functions
   pub holds-cong : {l : List ℕ} {n : ℕ} {F G : ℕ → K} → ((i : ℕ) → i < n → F i ≡ G i) → Holds q l n F → Holds q l n G
@@ -61,19 +61,18 @@ module _ (q : ℕ) (known : Known q) where
   of-number a e = ap (symbol q) e ∙ laws-of q known .symbol-number a
 
   -- the part in x
-  pub x-part : (a : K) (i : ℕ) → plusPart q (q * q) a (symbol q 1) (λ k. 𝟘) i ≡ xPart (symbols q) q a i
-  unfolding plusPart partOf xPart
+  pub x-part : (a : K) (i : ℕ) → plusPart q (q * q) a (symbol q 1) (symbol q (differenceOf q 0 1)) (λ k. 𝟘) i ≡ xPart (symbols q) q a i
+  unfolding plusPart xPart
   x-part a i =
-      ap (λ (y : K). 𝟘 ⊕ y ⊗ partOf q (q * q) a i) (of-number 𝟙 (sym (laws-of q known .number-one)))
-      ∙ plain (partOf q (q * q) a i)
-      ∙ sym (minus-is-plus q (unit (symbols q) (eqb i 0)) (power (symbols q) a (q * q - 1 - i)))
+      rw (of-number 𝟙 (sym (laws-of q known .number-one)), of-number (𝟘 ⊖ 𝟙) (minus-one q known))
+      (plain (unit (symbols q) (eqb i 0)) (power (symbols q) a (q * q - 1 - i)))
     where
-      plain : (y : K) → 𝟘 ⊕ 𝟙 ⊗ y ≡ y
-      plain y = simp (ring, laws-of q known)
+      plain : (x y : K) → 𝟘 ⊕ (𝟙 ⊗ x ⊕ (𝟘 ⊖ 𝟙) ⊗ y) ≡ x ⊖ y
+      plain x y = simp (ring, laws-of q known)
 
   -- the part in x, from its making
   pub x-values : (a : K) (values : List ℕ)
-      → ((F : ℕ → K) → Holds q (replicate 16 0) (q * q) F → Holds q values (q * q) (plusPart q (q * q) a (symbol q 1) F))
+      → ((F : ℕ → K) → Holds q (replicate 16 0) (q * q) F → Holds q values (q * q) (plusPart q (q * q) a (symbol q 1) (symbol q (differenceOf q 0 1)) F))
       → Holds q values (q * q) (xPart (symbols q) q a)
   x-values a values make = holds-cong (λ i h. x-part a i) (make (λ k. 𝟘) (holds-zeros (q * q) (sizes q known .square-few) (λ i. refl)))
 
@@ -85,11 +84,13 @@ module _ (q : ℕ) (known : Known q) where
 
     -- of one point more
     pub column-more : (b j : ℕ) → a < q * q → b < q
-        → plusPart q q (symbol q (getD (ordinatesAbove q a) b 0)) (symbol q (getD row (a * q + b) 0)) (columnSum q row a b) j ≡ columnSum q row a (b + 1) j
-    unfolding columnSum plusPart partOf yPart
+        → plusPart q q (symbol q (getD (ordinatesAbove q a) b 0)) (symbol q (getD row (a * q + b) 0)) (symbol q (getD row (a * q + b) 0)) (columnSum q row a b) j ≡ columnSum q row a (b + 1) j
+    unfolding columnSum plusPart yPart
     column-more b j ha hb =
         rw (of-number (pointAt (symbols q) q (a * q + b) .y) (ordinate-at q known a b ha hb), add-one b)
-        (sym (sum-suc (symbols q) b (λ b. symbol q (getD row (a * q + b) 0) ⊗ yPart (symbols q) q (pointAt (symbols q) q (a * q + b) .y) j)))
+        (ap (λ (y : K). columnSum q row a b j ⊕ y)
+        (sym (mul-add (laws-of q known) (symbol q (getD row (a * q + b) 0)) (unit (symbols q) (eqb j 0)) (power (symbols q) (pointAt (symbols q) q (a * q + b) .y) (q - 1 - j))))
+        ∙ sym (sum-suc (symbols q) b (λ b. symbol q (getD row (a * q + b) 0) ⊗ yPart (symbols q) q (pointAt (symbols q) q (a * q + b) .y) j)))
 
     -- what the points give within x^(q²), and past it
     column-within : (j i : ℕ) → i < q * q → columnOf q row a j i ≡ columnSum q row a q j ⊗ xPart (symbols q) q (symbol q a) i
@@ -100,26 +101,26 @@ module _ (q : ℕ) (known : Known q) where
     unfolding columnOf
     column-past j i h = ap (λ t. elim t [ true ↦ columnSum q row a q j ⊗ xPart (symbols q) q (symbol q a) i | false ↦ 𝟘 ]) (le-ltb i (q * q) h)
 
-    -- a row of bytes with the values added, each times the sum of the column
+    -- a row of bytes with the values subtracted, each times the sum of the column
     column-row : (S : Cells q) (l rest : List ℕ) → l ≡ shown q S ++ rest → (p r : ℕ) → p < 2 * q → r < 2 * q
         → (values : List ℕ) → Holds q values (q * q) (xPart (symbols q) q (symbol q a)) → (j b : ℕ) → b ≡ number q (columnSum q row a q j)
-        → plusValues l (rowPlace q p r) (q * q) values (productRow q b)
-        ≡ shown q (withRows q p r 1 (λ n i. S p r i ⊕ columnOf q row a j i) S) ++ rest
-    unfolding plusValues
+        → minusValues q l (rowPlace q p r) (q * q) values (productRow q b)
+        ≡ shown q (withRows q p r 1 (λ n i. S p r i ⊖ columnOf q row a j i) S) ++ rest
+    unfolding minusValues
     column-row S l rest e p r hp hr values held j b is =
-        ap (λ (k : ℕ). put l k (q * q) (plusValue l to values (productRow q b))) {x = to} {y = to + 0} (omega arith)
-        ∙ shown-places q S l rest e p r hp hr 0 (q * q) (plusValue l to values (productRow q b)) F (omega (arith, wide))
-        (λ i h. ap₂ bitXor (shown-read q S l rest e p r i hp hr (omega (arith, wide))) (product i h)
-        ∙ number-of-sum q known (S p r i) (columnSum q row a q j ⊗ xPart (symbols q) q (symbol q a) i)
-        ∙ ap (λ (y : K). number q (S p r i ⊕ y)) (sym (column-within j i h))
+        ap (λ (k : ℕ). put l k (q * q) (minusValue q l to values (productRow q b))) {x = to} {y = to + 0} (omega arith)
+        ∙ shown-places q S l rest e p r hp hr 0 (q * q) (minusValue q l to values (productRow q b)) F (omega (arith, wide))
+        (λ i h. ap₂ (differenceOf q) (shown-read q S l rest e p r i hp hr (omega (arith, wide))) (product i h)
+        ∙ number-of-difference q known (S p r i) (columnSum q row a q j ⊗ xPart (symbols q) q (symbol q a) i)
+        ∙ ap (λ (y : K). number q (S p r i ⊖ y)) (sym (column-within j i h))
         ∙ ap (λ (k : ℕ). number q (F k)) {x = i} {y = 0 + i} (omega arith))
-        (λ i out. ap (λ (y : K). S p r i ⊕ y) (column-past j i (⊎-elim (λ (h : i < 0). omega arith) (λ (h : 0 + q * q ≤ i). omega arith) out)) ∙ add-zero (laws-of q known) (S p r i))
+        (λ i out. ap (λ (y : K). S p r i ⊖ y) (column-past j i (⊎-elim (λ (h : i < 0). omega arith) (λ (h : 0 + q * q ≤ i). omega arith) out)) ∙ less-none q known (S p r i))
       where
         to : ℕ
         to = rowPlace q p r
 
         F : ℕ → K
-        F i = S p r i ⊕ columnOf q row a j i
+        F i = S p r i ⊖ columnOf q row a j i
 
         wide : q * q < width q
         wide = sizes q known .wide
@@ -132,8 +133,8 @@ module _ (q : ℕ) (known : Known q) where
 
     -- the same as a change of the area
     pub column-turns : (l m values products : List ℕ) (to p r j b : ℕ) → Holds q values (q * q) (xPart (symbols q) q (symbol q a)) → p < 2 * q → r < 2 * q
-        → b ≡ number q (columnSum q row a q j) → to ≡ rowPlace q p r → products ≡ productRow q b → m ≡ plusValues l to (q * q) values products
-        → Turns q l m (λ S. withRows q p r 1 (λ n i. S p r i ⊕ columnOf q row a j i) S)
+        → b ≡ number q (columnSum q row a q j) → to ≡ rowPlace q p r → products ≡ productRow q b → m ≡ minusValues q l to (q * q) values products
+        → Turns q l m (λ S. withRows q p r 1 (λ n i. S p r i ⊖ columnOf q row a j i) S)
     column-turns l m values products to p r j b held hp hr is place table made =
         record { shows = λ S rest e. made ∙ (rw (place, table) (column-row S l rest e p r hp hr values held j b is)) }
 

@@ -12,11 +12,11 @@ use lib.ListN.{set}
 use borrow.Author.Tests.{eq-eqb, ne-eqb}
 use Rattle.algebra.specs.Symbols.{Symbols}
 use Rattle.algebra.specs.Interpolation.{unit}
-use Rattle.algebra.proofs.Ring.{sub-self}
+use Rattle.algebra.proofs.Ring.{ring, sub-self}
 use Rattle.lists.proofs.Numbers.{same-or-not}
-use Rattle.symbols.specs.Rule.{Known, symbols, number}
+use Rattle.symbols.specs.Rule.{Known, differenceOf, symbols, number}
 use Rattle.symbols.proofs.FieldLaws.{laws-of}
-use Rattle.symbols.proofs.Bytes.{minus-is-plus}
+use Rattle.symbols.proofs.Bytes.{number-of-negative}
 use Rattle.published.specs.Start.{width, vanishing, one}
 use Rattle.workarea.specs.Area.{rowPlace, Cells, shown, withRows}
 use Rattle.startarea.specs.StartArea.{blank, firsts}
@@ -25,8 +25,8 @@ use Rattle.workarea.proofs.Sizes.{sizes}
 use Rattle.startarea.proofs.StartBytes.{shown-store}
 
 module _ (q : ℕ) (known : Known q) where
-  infixl 65 _⊕_ _⊖_
-  open Symbols (symbols q) using (K, 𝟘, 𝟙, _⊕_, _⊖_)
+  infixl 65 _⊖_
+  open Symbols (symbols q) using (K, 𝟘, 𝟙, _⊖_)
 
   -- 1 at x^c, and zero elsewhere
   single : ℕ → ℕ → K
@@ -61,10 +61,24 @@ module _ (q : ℕ) (known : Known q) where
   vanishing-else j i ne =
       ap (λ t. unit (symbols q) (t && eqb i (q * q)) ⊖ unit (symbols q) (t && eqb i 1)) (ne-eqb j 0 ne) ∙ sub-self (laws-of q known) 𝟘
 
+  -- the code's -1
+  pub minus-one : differenceOf q 0 1 ≡ number q (𝟘 ⊖ 𝟙)
+  minus-one = ap (differenceOf q 0) (sym (laws-of q known .number-one)) ∙ number-of-negative q known 𝟙
+
+  pub minus-one-small : differenceOf q 0 1 < q * q
+  minus-one-small = rw minus-one (laws-of q known .number-below (𝟘 ⊖ 𝟙))
+
+  -- -x, and nothing taken from a symbol
+  negative : ℕ → K
+  negative i = 𝟘 ⊖ single 1 i
+
+  pub less-none : (a : K) → a ⊖ 𝟘 ≡ a
+  less-none a = simp (ring, laws-of q known)
+
   -- three symbols stored in the blank area
   pub firsts-stored : (l rest : List ℕ) → l ≡ shown q (blank q) ++ rest
-      → set (set (set l (rowPlace q q 0) 1) (rowPlace q 0 q + 1) 1) (rowPlace q 0 q + q * q) 1 ≡ shown q (firsts q) ++ rest
-  unfolding blank firsts
+      → set (set (set l (rowPlace q q 0) 1) (rowPlace q 0 q + 1) (differenceOf q 0 1)) (rowPlace q 0 q + q * q) 1 ≡ shown q (firsts q) ++ rest
+  unfolding blank firsts negative
   firsts-stored l rest e = last ∙ ap (λ (w : List ℕ). w ++ rest) (shown-same q after (firsts q) same)
     where
       positive : 2 ≤ q
@@ -83,7 +97,7 @@ module _ (q : ℕ) (known : Known q) where
       f-first = withRows q q 0 1 (λ n. one (symbols q) q 0) (blank q)
 
       middle : Cells q
-      middle = withRows q 0 q 1 (λ n. single 1) f-first
+      middle = withRows q 0 q 1 (λ n. negative) f-first
 
       after : Cells q
       after = withRows q 0 q 1 (λ n. vanishing (symbols q) q 0) middle
@@ -98,25 +112,24 @@ module _ (q : ℕ) (known : Known q) where
           (is-one (one (symbols q) q 0) 0 (one-first 0 ∙ single-here 0))
           (λ i ne. one-first i ∙ single-there 0 i ne)
 
-      stored-2 : set (set l (rowPlace q q 0) 1) (rowPlace q 0 q + 1) 1 ≡ shown q middle ++ rest
+      stored-2 : set (set l (rowPlace q q 0) 1) (rowPlace q 0 q + 1) (differenceOf q 0 1) ≡ shown q middle ++ rest
       stored-2 =
-          shown-store q f-first (set l (rowPlace q q 0) 1) rest stored-1 0 q (omega (arith, positive)) (omega (arith, positive)) 1 1 (single 1) (omega (arith, wide, square))
-          (is-one (single 1) 1 (single-here 1))
-          (λ i ne. single-there 1 i ne ∙ sym (g-blank i))
+          shown-store q f-first (set l (rowPlace q q 0) 1) rest stored-1 0 q (omega (arith, positive)) (omega (arith, positive)) 1 (differenceOf q 0 1) negative (omega (arith, wide, square))
+          (minus-one ∙ ap (λ (y : K). number q (𝟘 ⊖ y)) (sym (single-here 1)))
+          (λ i ne. ap (λ (y : K). 𝟘 ⊖ y) (single-there 1 i ne) ∙ less-none 𝟘 ∙ sym (g-blank i))
 
-      last : set (set (set l (rowPlace q q 0) 1) (rowPlace q 0 q + 1) 1) (rowPlace q 0 q + q * q) 1 ≡ shown q after ++ rest
+      last : set (set (set l (rowPlace q q 0) 1) (rowPlace q 0 q + 1) (differenceOf q 0 1)) (rowPlace q 0 q + q * q) 1 ≡ shown q after ++ rest
       last =
-          shown-store q middle (set (set l (rowPlace q q 0) 1) (rowPlace q 0 q + 1) 1) rest stored-2 0 q (omega (arith, positive)) (omega (arith, positive)) (q * q) 1
+          shown-store q middle (set (set l (rowPlace q q 0) 1) (rowPlace q 0 q + 1) (differenceOf q 0 1)) rest stored-2 0 q (omega (arith, positive)) (omega (arith, positive)) (q * q) 1
           (vanishing (symbols q) q 0) wide
           (is-one (vanishing (symbols q) q 0) (q * q)
-          (vanishing-first (q * q) ∙ minus-is-plus q (single (q * q) (q * q)) (single 1 (q * q))
-          ∙ ap (λ (y : K). single (q * q) (q * q) ⊕ y) (single-there 1 (q * q) (λ z. omega (arith, square)))
-          ∙ laws-of q known .add-zero (single (q * q) (q * q)) ∙ single-here (q * q)))
+          (vanishing-first (q * q)
+          ∙ ap (λ (y : K). single (q * q) (q * q) ⊖ y) (single-there 1 (q * q) (λ z. omega (arith, square)))
+          ∙ less-none (single (q * q) (q * q)) ∙ single-here (q * q)))
           (λ i ne.
-          vanishing-first i ∙ minus-is-plus q (single (q * q) i) (single 1 i)
-          ∙ ap (λ (y : K). y ⊕ single 1 i) (single-there (q * q) i ne)
-          ∙ laws-of q known .add-comm 𝟘 (single 1 i) ∙ laws-of q known .add-zero (single 1 i)
-          ∙ sym (row-here q 0 q (single 1) f-first i))
+          vanishing-first i
+          ∙ ap (λ (y : K). y ⊖ single 1 i) (single-there (q * q) i ne)
+          ∙ sym (row-here q 0 q negative f-first i))
 
       same : (p r i : ℕ) → p < 2 * q → r < 2 * q → i < width q → after p r i ≡ firsts q p r i
       same p r i hp hr hi =
@@ -131,5 +144,5 @@ module _ (q : ℕ) (known : Known q) where
           other : (p ≡ 0 → r ≡ q → ⊥) → after p r i ≡ firsts q p r i
           other ne =
               row-there q 0 q (vanishing (symbols q) q 0) middle p r i ne
-              ∙ row-there q 0 q (single 1) f-first p r i ne
+              ∙ row-there q 0 q negative f-first p r i ne
               ∙ sym (row-there q 0 q (vanishing (symbols q) q 0) f-first p r i ne)

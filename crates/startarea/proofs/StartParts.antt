@@ -1,11 +1,10 @@
--- A multiple of 1 + Σ x^i·a^(n-1-i) added to a sum of powers of x, from the highest power down.
+-- A multiple of Σ x^i·a^(n-1-i) and a constant added to a sum of powers of x, from the highest power down.
 -- Assumes nothing.
 use mathlib.Core.Path.{_≡_, sym, ap, ap₂, _∙_}
 use mathlib.Core.List.{List}
 use mathlib.Core.Logic.{⊎-elim}
 use Prim.Native.Nat.{ℕ, suc, _-_, _%_, _<_, _≤_}
 use native.Mathlib.Omega.{arith}
-use lib.Bits.{bitXor}
 use lib.ListN.{length, getD, set}
 use lib.Seq.{getD-set-same, getD-set-other}
 use borrow.Author.Tests.{ne-eqb}
@@ -14,11 +13,11 @@ use Rattle.algebra.specs.Interpolation.{unit}
 use Rattle.algebra.proofs.Ring.{ring, mul-one}
 use Rattle.algebra.proofs.Powers.{power-zero, power-suc}
 use Rattle.lists.proofs.Numbers.{lt-or-ge, same-or-not}
-use Rattle.symbols.specs.Rule.{Known, Sym, symbols, number}
+use Rattle.symbols.specs.Rule.{Known, Sym, sumOf, symbols, number}
 use Rattle.symbols.proofs.FieldLaws.{laws-of}
 use Rattle.symbols.proofs.Bytes.{number-of-sum}
 use Rattle.workarea.specs.Area.{Multiplies}
-use Rattle.startarea.specs.StartArea.{Holds, partOf, plusPart}
+use Rattle.startarea.specs.StartArea.{Holds, plusPart}
 
 module _ (q n : ℕ) (a ρ : Sym q) (F : ℕ → Sym q) where
   infixl 65 _⊕_
@@ -42,7 +41,7 @@ module _ (q : ℕ) (known : Known q) where
 
     -- one power more
     pub added-more : (l : List ℕ) (i b : ℕ) → 0 < i → i ≤ n → n ≤ length l → b ≡ number q (ρ ⊗ power (symbols q) a (n - i)) → Added q n a ρ F l i
-        → Added q n a ρ F (set l (i - 1) (bitXor (getD l (i - 1) 0) b)) (i - 1)
+        → Added q n a ρ F (set l (i - 1) (sumOf q (getD l (i - 1) 0) b)) (i - 1)
     added-more l i b some low fit is done =
         record {
           below = λ k h. other k (λ e. omega arith) ∙ done .below k (omega arith);
@@ -53,7 +52,7 @@ module _ (q : ℕ) (known : Known q) where
         }
       where
         new : ℕ
-        new = bitXor (getD l (i - 1) 0) b
+        new = sumOf q (getD l (i - 1) 0) b
 
         other : (k : ℕ) → (k ≡ i - 1 → ⊥) → getD (set l (i - 1) new) k 0 ≡ getD l k 0
         other k ne = getD-set-other l (i - 1) k new 0 ne
@@ -62,7 +61,7 @@ module _ (q : ℕ) (known : Known q) where
         here =
             let power-is : n - i ≡ n - 1 - (i - 1) = omega arith in
             getD-set-same l (i - 1) new 0 (omega arith)
-            ∙ ap₂ bitXor (done .below (i - 1) (omega arith)) (is ∙ ap (λ (m : ℕ). number q (ρ ⊗ power (symbols q) a m)) power-is)
+            ∙ ap₂ (sumOf q) (done .below (i - 1) (omega arith)) (is ∙ ap (λ (m : ℕ). number q (ρ ⊗ power (symbols q) a m)) power-is)
             ∙ number-of-sum q known (F (i - 1)) (ρ ⊗ power (symbols q) a (n - 1 - (i - 1)))
 
     -- the first term is the factor itself
@@ -83,32 +82,32 @@ module _ (q : ℕ) (known : Known q) where
         swap : (y : K) → a ⊗ (ρ ⊗ y) ≡ ρ ⊗ (a ⊗ y)
         swap y = simp (ring, laws-of q known)
 
-    -- all powers are added, and the one of 1 last
-    pub added-all : (l : List ℕ) (b : ℕ) → 0 < n → n ≤ length l → b ≡ number q ρ → Added q n a ρ F l 0
-        → Holds q (set l 0 (bitXor (getD l 0 0) b)) n (plusPart q n a ρ F)
-    unfolding plusPart partOf unit
-    added-all l b some fit is done =
+    -- all powers are added, and the constant last
+    pub added-all : (σ : K) (l : List ℕ) (b : ℕ) → 0 < n → n ≤ length l → b ≡ number q σ → Added q n a ρ F l 0
+        → Holds q (set l 0 (sumOf q (getD l 0 0) b)) n (plusPart q n a σ ρ F)
+    unfolding plusPart unit
+    added-all σ l b some fit is done =
         record { at = λ k h. ⊎-elim (λ (e : k ≡ 0). rw e here) (λ ne. there k ne h) (same-or-not k 0) }
       where
         new : ℕ
-        new = bitXor (getD l 0 0) b
+        new = sumOf q (getD l 0 0) b
 
-        first : (y f : K) → f ⊕ ρ ⊗ y ⊕ ρ ≡ f ⊕ ρ ⊗ (𝟙 ⊕ y)
+        first : (y f : K) → f ⊕ ρ ⊗ y ⊕ σ ≡ f ⊕ (σ ⊗ 𝟙 ⊕ ρ ⊗ y)
         first y f = simp (ring, laws-of q known)
 
-        others : (y f : K) → f ⊕ ρ ⊗ y ≡ f ⊕ ρ ⊗ (𝟘 ⊕ y)
+        others : (y f : K) → f ⊕ ρ ⊗ y ≡ f ⊕ (σ ⊗ 𝟘 ⊕ ρ ⊗ y)
         others y f = simp (ring, laws-of q known)
 
-        here : getD (set l 0 new) 0 0 ≡ number q (plusPart q n a ρ F 0)
+        here : getD (set l 0 new) 0 0 ≡ number q (plusPart q n a σ ρ F 0)
         here =
             getD-set-same l 0 new 0 (omega arith)
-            ∙ ap₂ bitXor (done .above 0 (omega arith) some) is
-            ∙ number-of-sum q known (F 0 ⊕ ρ ⊗ power (symbols q) a (n - 1 - 0)) ρ
+            ∙ ap₂ (sumOf q) (done .above 0 (omega arith) some) is
+            ∙ number-of-sum q known (F 0 ⊕ ρ ⊗ power (symbols q) a (n - 1 - 0)) σ
             ∙ ap (number q) (first (power (symbols q) a (n - 1 - 0)) (F 0))
 
-        there : (k : ℕ) → (k ≡ 0 → ⊥) → k < n → getD (set l 0 new) k 0 ≡ number q (plusPart q n a ρ F k)
+        there : (k : ℕ) → (k ≡ 0 → ⊥) → k < n → getD (set l 0 new) k 0 ≡ number q (plusPart q n a σ ρ F k)
         there k ne h =
             getD-set-other l 0 k new 0 ne
             ∙ done .above k (omega arith) h
             ∙ ap (number q) (others (power (symbols q) a (n - 1 - k)) (F k)
-            ∙ ap (λ t. F k ⊕ ρ ⊗ (unit (symbols q) t ⊕ power (symbols q) a (n - 1 - k))) (sym (ne-eqb k 0 ne)))
+            ∙ ap (λ t. F k ⊕ (σ ⊗ unit (symbols q) t ⊕ ρ ⊗ power (symbols q) a (n - 1 - k))) (sym (ne-eqb k 0 ne)))

@@ -6,41 +6,38 @@ use mathlib.Core.Path.{_≡_}
 use mathlib.Core.Bool.{true, false}
 use mathlib.Core.List.{List}
 use Prim.Native.Nat.{ℕ, _+_, _-_, _*_, _/_, _%_, _<_}
-use lib.Bits.{bitXor}
 use lib.Dec.{eqb, ltb}
 use lib.ListN.{getD}
 use Rattle.algebra.specs.Symbols.{Symbols, power, sum}
 use Rattle.algebra.specs.Interpolation.{unit, xPart, yPart}
 use Rattle.lists.specs.Tables.{put}
-use Rattle.symbols.specs.Rule.{symbols, number}
+use Rattle.symbols.specs.Rule.{differenceOf, symbols, number}
 use Rattle.curve.specs.Points.{pointAt}
 use Rattle.published.specs.Start.{width, vanishing, one, startPart}
 use Rattle.workarea.specs.Area.{Cells, withRows}
 use Rattle.substitution.specs.Products.{productAdded}
 
--- the byte at `to` plus a value times what `products` is the table row of
-abbrev pub plusValue : List ℕ → ℕ → List ℕ → List ℕ → ℕ → ℕ
-plusValue l to values products i = bitXor (getD l (to + i) 0) (getD products (getD values i 0 % 16) 0)
+-- the byte at `to` minus a value times what `products` is the table row of
+abbrev pub minusValue : ℕ → List ℕ → ℕ → List ℕ → List ℕ → ℕ → ℕ
+minusValue q l to values products i = differenceOf q (getD l (to + i) 0) (getD products (getD values i 0 % 16) 0)
 
--- the n bytes from `to` on with a multiple of the values added
-unfoldable pub plusValues : List ℕ → ℕ → ℕ → List ℕ → List ℕ → List ℕ
-plusValues l to n values products = put l to n (plusValue l to values products)
+-- the n bytes from `to` on with a multiple of the values subtracted
+unfoldable pub minusValues : ℕ → List ℕ → ℕ → ℕ → List ℕ → List ℕ → List ℕ
+minusValues q l to n values products = put l to n (minusValue q l to values products)
 
 module _ (q : ℕ) where
-  infixl 65 _⊕_
+  infixl 65 _⊕_ _⊖_
   infixl 70 _⊗_
-  open Symbols (symbols q) using (K, 𝟘, 𝟙, _⊕_, _⊗_, symbol)
+  open Symbols (symbols q) using (K, 𝟘, 𝟙, _⊕_, _⊖_, _⊗_, symbol)
 
   -- n bytes that are the numbers of F
   pub record Holds (l : List ℕ) (n : ℕ) (F : ℕ → K) : Type 0 where
     pub at : (i : ℕ) → i < n → getD l i 0 ≡ number q (F i)
 
-  -- the two parts of the function that is one at a point have this form, the one in x with n = q², the one in y with n = q
-  unfoldable pub partOf : ℕ → K → ℕ → K
-  partOf n a i = unit (symbols q) (eqb i 0) ⊕ power (symbols q) a (n - 1 - i)
-
-  unfoldable pub plusPart : ℕ → K → K → (ℕ → K) → ℕ → K
-  plusPart n a ρ F i = F i ⊕ ρ ⊗ partOf n a i
+  -- F plus σ and ρ·Σ x^i·a^(n-1-i): the two parts of the function that is one at a point have this form, the one in x with n = q²
+  -- and ρ = -σ, the one in y with n = q and ρ = σ
+  unfoldable pub plusPart : ℕ → K → K → K → (ℕ → K) → ℕ → K
+  plusPart n a σ ρ F i = F i ⊕ (σ ⊗ unit (symbols q) (eqb i 0) ⊕ ρ ⊗ power (symbols q) a (n - 1 - i))
 
   -- the received symbols above the x with number a, times the parts in y of their points: the coefficient of y^j
   unfoldable pub columnSum : List ℕ → ℕ → ℕ → ℕ → K
@@ -54,9 +51,9 @@ module _ (q : ℕ) where
   unfoldable pub columnsOf : List ℕ → ℕ → ℕ → ℕ → K
   columnsOf row n j i = sum (symbols q) n (λ a. columnOf row a j i)
 
-  -- n rows of polynomial p, from row d on, become themselves plus those of G
-  unfoldable pub rowsPlus : ℕ → ℕ → ℕ → (ℕ → ℕ → K) → Cells q → Cells q
-  rowsPlus p d n G S = withRows q p d n (λ j i. S p (d + j) i ⊕ G j i) S
+  -- n rows of polynomial p, from row d on, become themselves minus those of G
+  unfoldable pub rowsMinus : ℕ → ℕ → ℕ → (ℕ → ℕ → K) → Cells q → Cells q
+  rowsMinus p d n G S = withRows q p d n (λ j i. S p (d + j) i ⊖ G j i) S
 
   -- an area of zeros
   unfoldable pub blank : Cells q

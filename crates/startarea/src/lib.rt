@@ -1,5 +1,6 @@
 // The polynomials before the first step: h by interpolation, g_0 and f_0, and their products by the powers of y.
 use substitution::Part;
+use substitution::Powers;
 ghost use mathlib.Core.Path.{_≡_};
 ghost use mathlib.Core.Bool.{false};
 ghost use mathlib.Core.List.{List, _++_, map};
@@ -11,9 +12,9 @@ ghost use Rattle.curve.specs.Codes.{pointCount};
 ghost use Rattle.published.specs.Start.{start};
 ghost use Rattle.published.specs.Picture.{areaSize, picture};
 ghost use Rattle.workarea.specs.Area.{Area, Turns, shown};
-ghost use Rattle.startarea.specs.StartArea.{plusValues, Holds, plusPart, columnSum, columnOf, columnsOf, rowsPlus, blank, firsts, begun, multipleAdded};
+ghost use Rattle.startarea.specs.StartArea.{minusValues, Holds, plusPart, columnSum, columnOf, columnsOf, rowsMinus, blank, firsts, begun, multipleAdded};
 
-// Puts x^(q²) - x in the lower part of g_0 and 1 in the upper part of f_0; minus equals plus.
+// Puts x^(q²) - x in the lower part of g_0 and 1 in the upper part of f_0.
 fn put_firsts(work: &mut [u8], q: usize)
     requires { ⌜ Area q (length (now work)) ⌝ }
     ensures { λ _. ⌜ ((rest : List ℕ) → now (work .entry) ≡ shown q (blank q) ++ rest → now (work .exit) ≡ shown q (firsts q) ++ rest) ⌝ }
@@ -21,26 +22,33 @@ fn put_firsts(work: &mut [u8], q: usize)
     let one = workarea::row_place(q, q, 0);
     work[one] = 1;
     let vanishing = workarea::row_place(q, 0, q);
-    work[vanishing + 1] = 1;
+    work[vanishing + 1] = symbols::difference(q, 0, 1);
     work[vanishing + q * q] = 1;
 }
 
-// Adds `factor` times 1 + Σ x^i·a^(n-1-i) to a sum of powers of x below n, by the products of a. Going down, the powers of a
-// rise.
-fn add_part(sums: [u8; 16], q: usize, n: usize, products: [u8; 16], factor: u8) -> [u8; 16]
+// Adds `constant` and `factor` times Σ x^i·a^(n-1-i) to a sum of powers of x below n, by the products of a. Going down, the
+// powers of a rise.
+fn add_part(
+    sums: [u8; 16],
+    q: usize,
+    n: usize,
+    products: [u8; 16],
+    constant: u8,
+    factor: u8,
+) -> [u8; 16]
     requires { ⌜ Known q ⌝ }
-    requires { ⌜ (0 < n) × (n ≤ 16) × (factor < q * q) ⌝ }
-    ensures { λ r. ⌜ ((a : ℕ) (F : ℕ → Sym q) → products ≡ productRow q a → Holds q sums n F → Holds q r n (plusPart q n (symbol q a) (symbol q factor) F)) ⌝ }
+    requires { ⌜ (0 < n) × (n ≤ 16) × (constant < q * q) × (factor < q * q) ⌝ }
+    ensures { λ r. ⌜ ((a : ℕ) (F : ℕ → Sym q) → products ≡ productRow q a → Holds q sums n F → Holds q r n (plusPart q n (symbol q a) (symbol q constant) (symbol q factor) F)) ⌝ }
 {
     let mut result = sums;
     let mut term = factor;
     let mut i = n;
     while 0 < i {
         i -= 1;
-        result[i] = result[i] ^ term;
+        result[i] = symbols::sum(q, result[i], term);
         term = products[(term % 16) as usize];
     }
-    result[0] = result[0] ^ factor;
+    result[0] = symbols::sum(q, result[0], constant);
     result
 }
 
@@ -55,48 +63,57 @@ fn column_sums(table: &[u8], q: usize, row: &[u8], a: usize) -> [u8; 16]
     let mut sums = [0u8; 16];
     for b in 0..q {
         let products = symbols::products_in(table, q, ordinates[b]);
-        let more = add_part(sums, q, q, products, row[a * q + b]);
+        let received = row[a * q + b];
+        let more = add_part(sums, q, q, products, received, received);
         sums = more;
     }
     sums
 }
 
-// Adds to the n bytes from `to` on the values, each times what `products` is the table row of.
-fn add_values(work: &mut [u8], to: usize, n: usize, values: [u8; 16], products: [u8; 16])
+// Subtracts from the n bytes from `to` on the values, each times what `products` is the table row of.
+fn subtract_values(
+    work: &mut [u8],
+    q: usize,
+    to: usize,
+    n: usize,
+    values: [u8; 16],
+    products: [u8; 16],
+)
     requires { ⌜ (to + n ≤ length (now work)) × (n ≤ 16) ⌝ }
-    ensures { λ _. ⌜ now (work .exit) ≡ plusValues (now (work .entry)) to n values products ⌝ }
+    ensures { λ _. ⌜ now (work .exit) ≡ minusValues q (now (work .entry)) to n values products ⌝ }
 {
     for i in 0..n {
         let factor = (values[i] % 16) as usize;
-        work[to + i] = work[to + i] ^ products[factor];
+        work[to + i] = symbols::difference(q, work[to + i], products[factor]);
     }
 }
 
-// Adds to the lower part of f_0 what the points above the x with number a give to h.
-fn add_column(table: &[u8], work: &mut [u8], q: usize, row: &[u8], a: usize)
+// Subtracts from the lower part of f_0 what the points above the x with number a give to h: the part in x of such a point is
+// 1 - Σ x^i·a^(q²-1-i).
+fn subtract_column(table: &[u8], work: &mut [u8], q: usize, row: &[u8], a: usize)
     requires { ⌜ Area q (length (now work)) ⌝ }
     requires { ⌜ (length (now row) ≡ pointCount q) × (anyBeyond q (now row) ≡ false) × HasProducts q (now table) ⌝ }
     requires { ⌜ a < q * q ⌝ }
-    ensures { λ _. ⌜ Turns q (now (work .entry)) (now (work .exit)) (rowsPlus q q q q (columnOf q (now (row .entry)) a)) ⌝ }
+    ensures { λ _. ⌜ Turns q (now (work .entry)) (now (work .exit)) (rowsMinus q q q q (columnOf q (now (row .entry)) a)) ⌝ }
 {
     let sums = column_sums(table, q, row, a);
     let powers = symbols::products_in(table, q, a as u8);
-    let values = add_part([0u8; 16], q, q * q, powers, 1);
+    let values = add_part([0u8; 16], q, q * q, powers, 1, symbols::difference(q, 0, 1));
     for j in 0..q {
         let products = symbols::products_in(table, q, sums[j]);
         let to = workarea::row_place(q, q, q + j);
-        add_values(work, to, q * q, values, products);
+        subtract_values(work, q, to, q * q, values, products);
     }
 }
 
-// Adds h to the lower part of f_0; minus equals plus.
-fn add_h(table: &[u8], work: &mut [u8], q: usize, row: &[u8])
+// Subtracts h from the lower part of f_0.
+fn subtract_h(table: &[u8], work: &mut [u8], q: usize, row: &[u8])
     requires { ⌜ Area q (length (now work)) ⌝ }
     requires { ⌜ (length (now row) ≡ pointCount q) × (anyBeyond q (now row) ≡ false) × HasProducts q (now table) ⌝ }
-    ensures { λ _. ⌜ Turns q (now (work .entry)) (now (work .exit)) (rowsPlus q q q q (columnsOf q (now (row .entry)) (q * q))) ⌝ }
+    ensures { λ _. ⌜ Turns q (now (work .entry)) (now (work .exit)) (rowsMinus q q q q (columnsOf q (now (row .entry)) (q * q))) ⌝ }
 {
     for a in 0..q * q {
-        add_column(table, work, q, row, a);
+        subtract_column(table, work, q, row, a);
     }
 }
 
@@ -115,7 +132,8 @@ fn add_multiple(work: &mut [u8], q: usize, first: usize, row: usize, i: usize)
         row,
     };
     let width = workarea::width_of(q);
-    substitution::add_product(work, q, to, from, width, 0, i, symbols::products_of(q, 1));
+    let powers = Powers { x: 0, y: i };
+    substitution::add_product(work, q, to, from, width, powers, symbols::products_of(q, 1));
 }
 
 // Makes g_i and f_i of g_0 and f_0; g_i has no upper part.
@@ -151,6 +169,6 @@ pub fn begin(table: &[u8], q: usize, row: &[u8], work: &mut [u8])
 {
     workarea::clear(work, workarea::area_size(q));
     put_firsts(work, q);
-    add_h(table, work, q, row);
+    subtract_h(table, work, q, row);
     add_all_multiples(work, q);
 }

@@ -6,17 +6,16 @@ use Prim.Native.Nat.{ℕ, _+_, _-_, _<_, _≤_}
 use native.Mathlib.Omega.{arith}
 use Rattle.algebra.specs.Symbols.{Symbols}
 use Rattle.algebra.specs.Functions.{shift, timesX, timesYs}
-use Rattle.algebra.proofs.Ring.{mul-add, add-assoc, add-zero, mul-zero}
+use Rattle.algebra.proofs.Ring.{ring, add-zero, mul-zero}
 use Rattle.lists.proofs.Numbers.{lt-or-ge}
 use Rattle.symbols.specs.Rule.{Known, symbols}
 use Rattle.symbols.proofs.FieldLaws.{laws-of}
-use Rattle.symbols.proofs.Bytes.{minus-is-plus}
 use Rattle.substitution.specs.Products.{Apart, sourceRow, sourceShift, functionOf, lowFunctionOf, plusProduct, productRowAdded, productAdded}
-use Rattle.workarea.specs.Area.{Cells, withRows, plusMultiple, rowAdded}
+use Rattle.workarea.specs.Area.{Cells, withRows, plusMultiple, minusMultiple, rowMade, rowAdded, rowSubtracted}
 use Rattle.substitution.specs.declared.Part.{Part}
 use Rattle.workarea.proofs.Cells.{rows-in, rows-out, rows-are, row-here, row-there, row-is}
 use Rattle.workarea.proofs.FirstSymbols.{first-cong, first-out}
-use Rattle.workarea.proofs.RowLaws.{plus-is}
+use Rattle.workarea.proofs.RowLaws.{multiple-is}
 use Rattle.algebra.proofs.Polynomials.{shift-none}
 use Rattle.algebra.proofs.Shifts.{shift-cong}
 use Rattle.substitution.proofs.Turned.{timesYs-cong, timesYs-zeros, product-plain, product-round}
@@ -59,13 +58,13 @@ module _ (q : ℕ) (known : Known q) where
       main i = shift (symbols q) q (a + sourceShift q b j) (lowFunctionOf q height from S (sourceRow q b j)) i
 
       first-here : (i : ℕ) → first (to .polynomial) (to .row + j) i ≡ functionOf q to S j i ⊕ ρ ⊗ main i
-      unfolding rowAdded
+      unfolding rowMade
       first-here i =
           row-here q (to .polynomial) (to .row + j) (plusMultiple q (functionOf q to S j) ρ (a + sourceShift q b j) (lowFunctionOf q height from S (sourceRow q b j))) S i
-          ∙ plus-is q known (functionOf q to S j) ρ (a + sourceShift q b j) (lowFunctionOf q height from S (sourceRow q b j)) i
+          ∙ multiple-is q known _⊕_ (functionOf q to S j) ρ (a + sourceShift q b j) (lowFunctionOf q height from S (sourceRow q b j)) i
 
       first-there : (p r i : ℕ) → (p ≡ to .polynomial → r ≡ to .row + j → ⊥) → first p r i ≡ S p r i
-      unfolding rowAdded
+      unfolding rowMade
       first-there = row-there q (to .polynomial) (to .row + j) (plusMultiple q (functionOf q to S j) ρ (a + sourceShift q b j) (lowFunctionOf q height from S (sourceRow q b j))) S
 
       -- one row added makes the row of the product where no y comes round
@@ -78,21 +77,20 @@ module _ (q : ℕ) (known : Known q) where
           ∙ sym (plusProduct-is S j i))
           first-there
 
-      -- two rows added make it where a y comes round
+      -- one row added and one subtracted make it where a y comes round
       pub twice : Apart q to from → 0 < j → j ≤ b → (p r i : ℕ)
-          → rowAdded q (to .polynomial) (to .row + j) (from .polynomial) (from .row + (j + q - b - 1)) height a ρ first p r i ≡ productRowAdded q to from j height a b ρ S p r i
-      unfolding productRowAdded rowAdded
+          → rowSubtracted q (to .polynomial) (to .row + j) (from .polynomial) (from .row + (j + q - b - 1)) height a ρ first p r i ≡ productRowAdded q to from j height a b ρ S p r i
+      unfolding productRowAdded rowMade
       twice apart some low =
           row-is q p₀ r₀ (plusProduct q to from height a b ρ S j) S (withRows q p₀ r₀ 1 (λ n. more) first)
           (λ i.
           row-here q p₀ r₀ more first i
-          ∙ plus-is q known (first p₀ r₀) ρ a (lowFunctionOf q height from first (j + q - b - 1)) i
-          ∙ ap (λ (y : K). y ⊕ ρ ⊗ shift (symbols q) q a (lowFunctionOf q height from first (j + q - b - 1)) i) (first-here i)
-          ∙ ap (λ (y : K). functionOf q to S j i ⊕ ρ ⊗ main i ⊕ ρ ⊗ y) (shift-cong (symbols q) q a i (λ n l. other n))
-          ∙ add-assoc (laws-of q known) (functionOf q to S j i) (ρ ⊗ main i) (ρ ⊗ round i)
-          ∙ ap (λ (y : K). functionOf q to S j i ⊕ y) (sym (mul-add (laws-of q known) ρ (main i) (round i)))
+          ∙ multiple-is q known _⊖_ (first p₀ r₀) ρ a (lowFunctionOf q height from first (j + q - b - 1)) i
+          ∙ ap (λ (y : K). y ⊖ ρ ⊗ shift (symbols q) q a (lowFunctionOf q height from first (j + q - b - 1)) i) (first-here i)
+          ∙ ap (λ (y : K). functionOf q to S j i ⊕ ρ ⊗ main i ⊖ ρ ⊗ y) (shift-cong (symbols q) q a i (λ n l. other n))
+          ∙ together (functionOf q to S j i) (main i) (round i)
           ∙ ap (λ (y : K). functionOf q to S j i ⊕ ρ ⊗ y)
-          (sym (minus-is-plus q (main i) (round i)) ∙ sym (product-round (symbols q) q (lowFunctionOf q height from S) (laws-of q known) a b j i hb some low))
+          (sym (product-round (symbols q) q (lowFunctionOf q height from S) (laws-of q known) a b j i hb some low))
           ∙ sym (plusProduct-is S j i))
           (λ p r i ne. row-there q p₀ r₀ more first p r i ne ∙ first-there p r i ne)
         where
@@ -103,7 +101,10 @@ module _ (q : ℕ) (known : Known q) where
           r₀ = to .row + j
 
           more : ℕ → K
-          more = plusMultiple q (first p₀ r₀) ρ a (lowFunctionOf q height from first (j + q - b - 1))
+          more = minusMultiple q (first p₀ r₀) ρ a (lowFunctionOf q height from first (j + q - b - 1))
+
+          together : (x y z : K) → x ⊕ ρ ⊗ y ⊖ ρ ⊗ z ≡ x ⊕ ρ ⊗ (y ⊖ z)
+          together x y z = simp (ring, laws-of q known)
 
           round : ℕ → K
           round i = shift (symbols q) q a (lowFunctionOf q height from S (j + q - b - 1)) i

@@ -1,5 +1,6 @@
 // Products by monomials: ρ·x^a·y^b times one part of a polynomial added to another part, and the substitution for z.
 use curve::Monomial;
+use workarea::Row;
 ghost use mathlib.Core.Path.{_≡_};
 ghost use Prim.Native.Nat.{_+_, _*_, _<_, _≤_};
 ghost use lib.ListN.{length};
@@ -19,13 +20,19 @@ pub struct Part {
     pub row: usize,
 }
 
+// The powers of x and y of a monomial.
+pub struct Powers {
+    pub x: usize,
+    pub y: usize,
+}
+
 // The row that row j of y^b times a part comes from, and how far it is moved up.
 struct Source {
     row: usize,
     shift: usize,
 }
 
-// y^q is rewritten as x^(q+1) + y; this is the row that comes by the first, or unchanged.
+// y^q is rewritten as x^(q+1) - y; this is the row that comes by the first, or unchanged.
 fn source_of(q: usize, b: usize, j: usize) -> Source
     requires { ⌜ (q ≤ 4) × (b < q) × (j < q) ⌝ }
     ensures { λ r. ⌜ (r .row ≡ sourceRow q b j) × (r .shift ≡ sourceShift q b j) × (r .row < q) × (r .shift ≤ q + 1) ⌝ }
@@ -42,8 +49,8 @@ fn source_of(q: usize, b: usize, j: usize) -> Source
     }
 }
 
-// Adds to row j of one part that of x^a·y^b times another part, of whose rows the first `height` symbols are taken, times what
-// `products` is the table row of.
+// Adds to row j of one part that of a monomial times another part, of whose rows the first `height` symbols are taken, times
+// what `products` is the table row of.
 fn add_product_row(
     work: &mut [u8],
     q: usize,
@@ -51,41 +58,38 @@ fn add_product_row(
     from: Part,
     j: usize,
     height: usize,
-    a: usize,
-    b: usize,
+    powers: Powers,
     products: [u8; 16],
 )
     requires { ⌜ Area q (length (now work)) ⌝ }
     requires { ⌜ Apart q to from ⌝ }
-    requires { ⌜ (j < q) × (b < q) × (a ≤ 1000) ⌝ }
-    ensures { λ _. ⌜ ((ρ : Sym q) → Multiplies q products ρ → Turns q (now (work .entry)) (now (work .exit)) (productRowAdded q to from j height a b ρ)) ⌝ }
+    requires { ⌜ (j < q) × (powers .y < q) × (powers .x ≤ 1000) ⌝ }
+    ensures { λ _. ⌜ ((ρ : Sym q) → Multiplies q products ρ → Turns q (now (work .entry)) (now (work .exit)) (productRowAdded q to from j height (powers .x) (powers .y) ρ)) ⌝ }
 {
+    let a = powers.x;
+    let b = powers.y;
     let source = source_of(q, b, j);
-    let row = source.row;
-    let shift = source.shift;
-    let p = to.polynomial;
-    let at = to.row + j;
-    let p2 = from.polynomial;
-    let start = from.row;
-    workarea::add_row(work, q, p, at, p2, start + row, height, a + shift, products);
+    let target = Row {
+        polynomial: to.polynomial,
+        row: to.row + j,
+    };
+    let main = Row {
+        polynomial: from.polynomial,
+        row: from.row + source.row,
+    };
+    workarea::add_row(work, q, target, main, height, a + source.shift, products);
     if j == 0 {
         return;
     }
     if b < j {
         return;
     }
-    // the y of x^(q+1) + y comes round to this row too
-    workarea::add_row(
-        work,
-        q,
-        p,
-        at,
-        p2,
-        start + (j + q - b - 1),
-        height,
-        a,
-        products,
-    );
+    // the y of x^(q+1) - y comes round to this row too
+    let round = Row {
+        polynomial: from.polynomial,
+        row: from.row + (j + q - b - 1),
+    };
+    workarea::subtract_row(work, q, target, round, height, a, products);
 }
 
 // The same in all rows of the part; there is nothing to do where none has a symbol.
@@ -95,38 +99,30 @@ pub fn add_product(
     to: Part,
     from: Part,
     height: usize,
-    a: usize,
-    b: usize,
+    powers: Powers,
     products: [u8; 16],
 )
     requires { ⌜ Area q (length (now work)) ⌝ }
     requires { ⌜ Apart q to from ⌝ }
-    requires { ⌜ (b < q) × (a ≤ 1000) ⌝ }
-    ensures { λ _. ⌜ ((ρ : Sym q) → Multiplies q products ρ → Turns q (now (work .entry)) (now (work .exit)) (productAdded q to from height a b ρ q)) ⌝ }
+    requires { ⌜ (powers .y < q) × (powers .x ≤ 1000) ⌝ }
+    ensures { λ _. ⌜ ((ρ : Sym q) → Multiplies q products ρ → Turns q (now (work .entry)) (now (work .exit)) (productAdded q to from height (powers .x) (powers .y) ρ q)) ⌝ }
 {
     if height == 0 {
         return;
     }
     for j in 0..q {
-        add_product_row(work, q, to, from, j, height, a, b, products);
+        add_product_row(work, q, to, from, j, height, powers, products);
     }
 }
 
-// z becomes z + ρ·x^a·y^b, where `products` is the table row of ρ, in all 2q polynomials, whose upper rows have no more symbols
-// than `heights` says.
-pub fn replace_z(
-    work: &mut [u8],
-    q: usize,
-    heights: &[usize],
-    a: usize,
-    b: usize,
-    products: [u8; 16],
-)
+// z becomes z + ρ·x^a·y^b for these powers a and b, where `products` is the table row of ρ, in all 2q polynomials, whose upper
+// rows have no more symbols than `heights` says.
+pub fn replace_z(work: &mut [u8], q: usize, heights: &[usize], powers: Powers, products: [u8; 16])
     requires { ⌜ Area q (length (now work)) ⌝ }
     requires { ⌜ 2 * q ≤ length (now heights) ⌝ }
-    requires { ⌜ (b < q) × (a ≤ 1000) ⌝ }
+    requires { ⌜ (powers .y < q) × (powers .x ≤ 1000) ⌝ }
     ensures { λ _. ⌜ ((ρ : Sym q) → Multiplies q products ρ
-        → Turns q (now (work .entry)) (now (work .exit)) (replacedZ q (now (heights .entry)) a b ρ (2 * q))) ⌝ }
+        → Turns q (now (work .entry)) (now (work .exit)) (replacedZ q (now (heights .entry)) (powers .x) (powers .y) ρ (2 * q))) ⌝ }
 {
     for p in 0..2 * q {
         let upper = Part {
@@ -137,7 +133,7 @@ pub fn replace_z(
             polynomial: p,
             row: q,
         };
-        add_product(work, q, lower, upper, heights[p], a, b, products);
+        add_product(work, q, lower, upper, heights[p], powers, products);
     }
 }
 
@@ -157,5 +153,5 @@ pub fn substitute(table: &[u8], work: &mut [u8], q: usize, heights: &[usize], s:
         return;
     };
     let products = symbols::products_in(table, q, vote);
-    replace_z(work, q, heights, x, y, products);
+    replace_z(work, q, heights, Powers { x, y }, products);
 }

@@ -7,7 +7,7 @@ use Prim.Native.Nat.{ℕ, zero, suc, _*_, _-_, _%_, _^_, _<_}
 use native.Mathlib.Omega.{arith}
 use lib.Bits.{bitXor, xor-comm, xor-zero-r, xor-self}
 use Rattle.algebra.specs.Symbols.{Symbols, Laws, power, sum}
-use Rattle.symbols.specs.Rule.{size, reducedBy, chosen, product, powerOf, inverseOf, symbols}
+use Rattle.symbols.specs.Rule.{size, reducedBy, differenceOf, chosen, product, powerOf, inverseOf, symbols}
 use Rattle.symbols.proofs.Tested.{number-eq}
 use Rattle.symbols.proofs.Bytes.{numbered, number-of-small, number-of-xor}
 use Rattle.symbols.proofs.Xor.{digit, low-digit, xor-assoc}
@@ -78,7 +78,7 @@ module _ {q m : ℕ} (𝓑 : Binary q m) where
   minus-self a = of-sum a a ∙ xor-self (number a)
 
   difference : (a b : K) → a ⊖ b ≡ a ⊕ minus b
-  unfolding symbols
+  unfolding symbols differenceOf
   difference a b = refl
 
   -- a sum of ones is 0 or 1 by turns

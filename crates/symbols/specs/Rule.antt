@@ -28,6 +28,14 @@ size q = suc (q * q - 1)
 unfoldable pub reducedBy : ℕ → ℕ
 reducedBy q = cond (eqb q 2) 7 19
 
+-- the number of a sum: exclusive or
+unfoldable pub sumOf : ℕ → ℕ → ℕ → ℕ
+sumOf q a b = bitXor a b
+
+-- the number of a difference: minus equals plus
+unfoldable pub differenceOf : ℕ → ℕ → ℕ → ℕ
+differenceOf q a b = sumOf q a b
+
 -- products in binary digits: of numbers below n, reduced by r
 module _ (n r : ℕ) where
   -- a·x for a = 2: one digit up, and reduced where that reaches n
@@ -65,7 +73,7 @@ unfoldable pub into : (q : ℕ) → ℕ → Below (size q)
 unfolding Below
 into q a = (a % size q, mod-lt a (some q))
 
--- the operations: sum is exclusive or, and minus equals plus
+-- the operations; a symbol is its own negative
 unfoldable pub symbols : ℕ → Symbols
 unfolding Below into
 symbols q =
@@ -73,8 +81,8 @@ symbols q =
       K = Below (size q);
       𝟘 = into q 0;
       𝟙 = into q 1;
-      _⊕_ = λ a b. into q (bitXor (a .0) (b .0));
-      _⊖_ = λ a b. into q (bitXor (a .0) (b .0));
+      _⊕_ = λ a b. into q (sumOf q (a .0) (b .0));
+      _⊖_ = λ a b. into q (differenceOf q (a .0) (b .0));
       minus = λ a. a;
       _⊗_ = λ a b. into q (product q (a .0) (b .0));
       inverse = λ a. into q (inverseOf q (a .0));

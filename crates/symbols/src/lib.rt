@@ -6,9 +6,8 @@ ghost use mathlib.Core.Path.{_≡_};
 ghost use mathlib.Core.Bool.{not};
 ghost use Prim.Native.Nat.{_+_, _≤_};
 ghost use lib.ListN.{length, replicate};
-ghost use lib.Bits.{bitXor};
 ghost use Rattle.algebra.specs.Symbols.{power as powerOf};
-ghost use Rattle.symbols.specs.Rule.{isKnown, Known, symbols, number, symbol, anyBeyond};
+ghost use Rattle.symbols.specs.Rule.{isKnown, Known, sumOf, differenceOf, symbols, number, symbol, anyBeyond};
 ghost use Rattle.symbols.specs.Tables.{productRow, placesOn, HasProducts};
 ghost use Rattle.lists.specs.Tables.{put};
 
@@ -19,11 +18,18 @@ pub fn is_known(q: usize) -> bool
     q == 2 || q == 4
 }
 
-// The sum is exclusive or.
-pub fn sum(a: u8, b: u8) -> u8
-    ensures { λ r. ⌜ r ≡ bitXor a b ⌝ }
+// The sum of two symbols: exclusive or, for every q that is known. No other crate knows what sums and differences are made of.
+pub fn sum(q: usize, a: u8, b: u8) -> u8
+    ensures { λ r. ⌜ r ≡ sumOf q a b ⌝ }
 {
     a ^ b
+}
+
+// The difference of two symbols: minus equals plus, for every q that is known.
+pub fn difference(q: usize, a: u8, b: u8) -> u8
+    ensures { λ r. ⌜ r ≡ differenceOf q a b ⌝ }
+{
+    sum(q, a, b)
 }
 
 pub fn inverse(q: usize, a: u8) -> u8

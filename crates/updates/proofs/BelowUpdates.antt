@@ -9,29 +9,29 @@ use lib.ListN.{getD, set, length-set}
 use lib.Seq.{getD-set-same, getD-set-other}
 use Rattle.algebra.specs.Symbols.{Symbols}
 use Rattle.algebra.specs.Functions.{shift}
-use Rattle.algebra.proofs.Ring.{add-zero, mul-zero}
+use Rattle.algebra.proofs.Ring.{ring}
 use Rattle.lists.proofs.Numbers.{lt-or-ge, same-or-not}
 use Rattle.symbols.specs.Rule.{Known, symbols}
 use Rattle.symbols.proofs.FieldLaws.{laws-of}
 use Rattle.published.specs.Start.{Polynomials, width}
-use Rattle.workarea.specs.Area.{Cells, cellsOf, Turns, withRows, firstSymbols, plusMultiple, raisedPlus}
-use Rattle.updates.specs.Updates.{rowHeight, polynomialAdded, polynomialsExchanged}
+use Rattle.workarea.specs.Area.{Cells, cellsOf, Turns, withRows, firstSymbols, minusMultiple, raisedMinus}
+use Rattle.updates.specs.Updates.{rowHeight, polynomialReduced, polynomialsExchanged}
 use Rattle.workarea.specs.Heights.{Heights, Below, BecomesBelow, heightOfSum, heightsAdded, heightsExchanged}
 use Rattle.workarea.proofs.Cells.{rows-out, all-rows}
 use Rattle.workarea.proofs.Becoming.{becomes, below-same}
 use Rattle.workarea.proofs.FirstSymbols.{first-in, first-out}
 use Rattle.workarea.proofs.HeightLaws.{sum-past}
-use Rattle.workarea.proofs.RowLaws.{plus-is, raised-is}
+use Rattle.workarea.proofs.RowLaws.{multiple-is, raised-is}
 use Rattle.algebra.proofs.Polynomials.{shift-none}
 
 module _ (q : ℕ) (known : Known q) where
-  infixl 65 _⊕_
+  infixl 65 _⊖_
   infixl 70 _⊗_
-  open Symbols (symbols q) using (K, 𝟘, _⊕_, _⊗_)
+  open Symbols (symbols q) using (K, 𝟘, _⊖_, _⊗_)
 
-  -- a sum of zeros
-  nothing-added : (a b ρ : K) → a ≡ 𝟘 → b ≡ 𝟘 → a ⊕ ρ ⊗ b ≡ 𝟘
-  nothing-added a b ρ ea eb = rw (ea, eb) (simp (mul-zero (laws-of q known), add-zero (laws-of q known)))
+  -- a difference of zeros
+  nothing-left : (a b ρ : K) → a ≡ 𝟘 → b ≡ 𝟘 → a ⊖ ρ ⊗ b ≡ 𝟘
+  nothing-left a b ρ ea eb = rw (ea, eb) (simp (ring, laws-of q known))
 
   -- the first symbols of a row of zeros
   first-zero : (n : ℕ) (a : ℕ → K) (i : ℕ) → a i ≡ 𝟘 → firstSymbols q n a i ≡ 𝟘
@@ -42,18 +42,18 @@ module _ (q : ℕ) (known : Known q) where
       (lt-or-ge i n)
 
   module _ (heights : List ℕ) (many : Heights q heights) (S : Cells q) (below : Below q heights S) (f g c : ℕ) (ρ : K) (hf : f < 2 * q) (hg : g < 2 * q) where
-    -- after polynomial f has become f + ρ·x^c·g
-    pub below-added : (n : ℕ) → Below q (heightsAdded q f g c heights) (polynomialAdded q f g n c ρ (2 * q) S)
-    unfolding heightsAdded polynomialAdded
-    below-added n =
+    -- after polynomial f has become f - ρ·x^c·g
+    pub below-reduced : (n : ℕ) → Below q (heightsAdded q f g c heights) (polynomialReduced q f g n c ρ (2 * q) S)
+    unfolding heightsAdded polynomialReduced
+    below-reduced n =
         record {
           above = λ p r i hp hr hi past. ⊎-elim
               (λ (e : p ≡ f).
               let high = sum-past q (getD heights f 0) (getD heights g 0 + c) i hi (rw (e, getD-set-same heights f new 0 (omega (arith, many .enough))) at past) in
               rw e
               (all-rows q f F S r i (omega arith)
-              ∙ plus-is q known (S f r) ρ c (firstSymbols q (rowHeight q n r) (S g r)) i
-              ∙ nothing-added (S f r i) (shift (symbols q) q c (firstSymbols q (rowHeight q n r) (S g r)) i) ρ
+              ∙ multiple-is q known _⊖_ (S f r) ρ c (firstSymbols q (rowHeight q n r) (S g r)) i
+              ∙ nothing-left (S f r i) (shift (symbols q) q c (firstSymbols q (rowHeight q n r) (S g r)) i) ρ
               (below .above f r i hf hr hi (high .0))
               (shift-none (symbols q) q c (firstSymbols q (rowHeight q n r) (S g r)) i
               (λ m l. first-zero (rowHeight q n r) (S g r) m (below .above g r m hg hr (omega arith) (omega (arith, high .1)))))))
@@ -64,12 +64,12 @@ module _ (q : ℕ) (known : Known q) where
         }
       where
         F : ℕ → ℕ → K
-        F r = plusMultiple q (S f r) ρ c (firstSymbols q (rowHeight q n r) (S g r))
+        F r = minusMultiple q (S f r) ρ c (firstSymbols q (rowHeight q n r) (S g r))
 
         new : ℕ
         new = heightOfSum q (getD heights f 0) (getD heights g 0 + c)
 
-    -- after f has become x^c·f + ρ·g, and g what f was
+    -- after f has become x^c·f - ρ·g, and g what f was
     pub below-exchanged : (f ≡ g → ⊥) → Below q (heightsExchanged q f g c heights) (polynomialsExchanged q f g c ρ (2 * q) S)
     unfolding heightsExchanged polynomialsExchanged
     below-exchanged apart =
@@ -86,7 +86,7 @@ module _ (q : ℕ) (known : Known q) where
         }
       where
         F : ℕ → ℕ → K
-        F r = raisedPlus q (S f r) ρ c (S g r)
+        F r = raisedMinus q (S f r) ρ c (S g r)
 
         inner : Cells q
         inner = withRows q f 0 (2 * q) F S
@@ -102,7 +102,7 @@ module _ (q : ℕ) (known : Known q) where
             rw e
             (all-rows q f F S r i (omega arith)
             ∙ raised-is q known (S f r) ρ c (S g r) i
-            ∙ nothing-added (shift (symbols q) q c (S f r) i) (S g r i) ρ
+            ∙ nothing-left (shift (symbols q) q c (S f r) i) (S g r i) ρ
             (shift-none (symbols q) q c (S f r) i (λ n l. below .above f r n hf hr (omega arith) (omega (arith, high .0))))
             (below .above g r i hg hr hi (high .1))))
             (λ ne.
@@ -113,13 +113,13 @@ module _ (q : ℕ) (known : Known q) where
   module _ (heights heights′ : List ℕ) (many : Heights q heights) (S T : Polynomials (symbols q) q) (below : Below q heights (cellsOf q S))
       (f g c : ℕ) (ρ : K) (hf : f < 2 * q) (hg : g < 2 * q) {before after : List ℕ} where
     -- both updates of the bytes and of the heights, where their cells are those of T
-    pub becomes-added : (n : ℕ) → Turns q before after (polynomialAdded q f g n c ρ (2 * q)) → heights′ ≡ heightsAdded q f g c heights
-        → ((p r i : ℕ) → p < 2 * q → r < 2 * q → i < width q → polynomialAdded q f g n c ρ (2 * q) (cellsOf q S) p r i ≡ cellsOf q T p r i)
+    pub becomes-reduced : (n : ℕ) → Turns q before after (polynomialReduced q f g n c ρ (2 * q)) → heights′ ≡ heightsAdded q f g c heights
+        → ((p r i : ℕ) → p < 2 * q → r < 2 * q → i < width q → polynomialReduced q f g n c ρ (2 * q) (cellsOf q S) p r i ≡ cellsOf q T p r i)
         → BecomesBelow q before after S T heights′
-    becomes-added n turns e same =
+    becomes-reduced n turns e same =
         record {
-          becomes = becomes q (polynomialAdded q f g n c ρ (2 * q)) turns same;
-          below = rw e (below-same q _ _ (cellsOf q T) same (below-added heights many (cellsOf q S) below f g c ρ hf hg n));
+          becomes = becomes q (polynomialReduced q f g n c ρ (2 * q)) turns same;
+          below = rw e (below-same q _ _ (cellsOf q T) same (below-reduced heights many (cellsOf q S) below f g c ρ hf hg n));
         }
 
     pub becomes-exchanged : (f ≡ g → ⊥) → Turns q before after (polynomialsExchanged q f g c ρ (2 * q)) → heights′ ≡ heightsExchanged q f g c heights

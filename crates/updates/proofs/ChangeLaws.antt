@@ -8,34 +8,33 @@ use mathlib.Core.Logic.{⊎-elim}
 use Prim.Native.Nat.{ℕ, _+_, _*_, _<_, _≤_}
 use native.Mathlib.Numerals.{add-one}
 use native.Mathlib.Omega.{arith}
-use lib.Bits.{bitXor}
 use lib.Dec.{eqb, ltb}
 use lib.ListN.{getD}
 use borrow.Author.Tests.{eq-eqb, ne-eqb, le-ltb}
 use Rattle.algebra.specs.Symbols.{Symbols, same}
-use Rattle.algebra.specs.Functions.{shift, timesX}
+use Rattle.algebra.specs.Functions.{timesX}
 use Rattle.lists.specs.Tables.{tab}
 use Rattle.lists.proofs.Numbers.{lt-or-ge, same-or-not}
 use Rattle.lists.proofs.Tables.{getD-tab}
-use Rattle.symbols.specs.Rule.{Known, symbols, Sym, number, symbol}
+use Rattle.symbols.specs.Rule.{Known, differenceOf, symbols, Sym, number, symbol}
 use Rattle.symbols.proofs.FieldLaws.{laws-of}
-use Rattle.symbols.proofs.Bytes.{number-of-sum, minus-is-plus}
+use Rattle.symbols.proofs.Bytes.{number-of-difference}
 use Rattle.published.specs.Start.{Polynomial, Polynomials, polynomial, width}
 use Rattle.published.specs.Pairing.{Pairing, positivePart, negativePart}
 use Rattle.published.specs.Steps.{raisedPart, reducedPart, replaced, exchanged, noPair, ratio, changed, updated}
-use Rattle.workarea.specs.Area.{Cells, cellsOf, withRows, firstSymbols, plusMultiple, raisedPlus}
-use Rattle.updates.specs.Updates.{rowHeight, polynomialAdded, polynomialsExchanged}
+use Rattle.workarea.specs.Area.{Cells, cellsOf, withRows, firstSymbols, minusMultiple, raisedMinus}
+use Rattle.updates.specs.Updates.{rowHeight, polynomialReduced, polynomialsExchanged}
 use Rattle.workarea.proofs.Cells.{rows-out, all-rows}
 use Rattle.workarea.proofs.FirstSymbols.{first-in, first-all}
 use Rattle.updates.proofs.UpdateCells.{height-upper, height-lower}
-use Rattle.workarea.proofs.RowLaws.{plus-is, raised-is}
+use Rattle.workarea.proofs.RowLaws.{multiple-is, raised-is}
 use Rattle.algebra.proofs.Shifts.{shift-cong}
 use Rattle.workarea.proofs.Coefficients.{held, cell-held, held-polynomial}
 
 module _ (q : ℕ) (known : Known q) (S : Polynomials (symbols q) q) where
-  infixl 65 _⊕_ _⊖_
+  infixl 65 _⊖_
   infixl 70 _⊗_
-  open Symbols (symbols q) using (K, _⊕_, _⊖_, _⊗_)
+  open Symbols (symbols q) using (K, _⊖_, _⊗_)
 
   -- a polynomial of a table of polynomials
   in-table : (G : ℕ → Polynomial (symbols q) q) (p r n : ℕ) → p < 2 * q → cellsOf q (tab (2 * q) G) p r n ≡ held q (G p) r n
@@ -50,32 +49,30 @@ module _ (q : ℕ) (known : Known q) (S : Polynomials (symbols q) q) where
       (λ (l : q ≤ r). rw (height-lower q h r l) (first-in q (width q) (cellsOf q S g r) n hn))
       (lt-or-ge r q)
 
-  -- f_i - ρ·x^c·g is f_i + ρ·x^c·g
+  -- a cell of f_i - ρ·x^c·g
   reduced-cell : (i g h c : ℕ) (ρ : K) → ((r n : ℕ) → r < q → n < width q → h ≤ n → cellsOf q S g r n ≡ symbols q .𝟘) → (r n : ℕ) → r < 2 * q → n < width q
-      → plusMultiple q (cellsOf q S (q + i) r) ρ c (firstSymbols q (rowHeight q h r) (cellsOf q S g r)) n
+      → minusMultiple q (cellsOf q S (q + i) r) ρ c (firstSymbols q (rowHeight q h r) (cellsOf q S g r)) n
       ≡ held q (polynomial (symbols q) q (reducedPart (symbols q) q S i g c ρ)) r n
   unfolding reducedPart timesX cellsOf
   reduced-cell i g h c ρ short r n hr hn =
-      plus-is q known (cellsOf q S (q + i) r) ρ c (firstSymbols q (rowHeight q h r) (cellsOf q S g r)) n
-      ∙ ap (λ (y : K). cellsOf q S (q + i) r n ⊕ ρ ⊗ y) (shift-cong (symbols q) q c n (λ m l. all-added g h short r m (omega arith)))
-      ∙ sym (minus-is-plus q (cellsOf q S (q + i) r n) (ρ ⊗ shift (symbols q) q c (cellsOf q S g r) n))
+      multiple-is q known _⊖_ (cellsOf q S (q + i) r) ρ c (firstSymbols q (rowHeight q h r) (cellsOf q S g r)) n
+      ∙ ap (λ (y : K). cellsOf q S (q + i) r n ⊖ ρ ⊗ y) (shift-cong (symbols q) q c n (λ m l. all-added g h short r m (omega arith)))
       ∙ sym (held-polynomial q (reducedPart (symbols q) q S i g c ρ) r n hr hn)
 
-  -- x^c·f_i - ρ·g is x^c·f_i + ρ·g
+  -- a cell of x^c·f_i - ρ·g
   raised-cell : (i g c : ℕ) (ρ : K) (r n : ℕ) → r < 2 * q → n < width q
-      → raisedPlus q (cellsOf q S (q + i) r) ρ c (cellsOf q S g r) n ≡ held q (polynomial (symbols q) q (raisedPart (symbols q) q S i g c ρ)) r n
+      → raisedMinus q (cellsOf q S (q + i) r) ρ c (cellsOf q S g r) n ≡ held q (polynomial (symbols q) q (raisedPart (symbols q) q S i g c ρ)) r n
   unfolding raisedPart timesX cellsOf
   raised-cell i g c ρ r n hr hn =
       raised-is q known (cellsOf q S (q + i) r) ρ c (cellsOf q S g r) n
-      ∙ sym (minus-is-plus q (shift (symbols q) q c (cellsOf q S (q + i) r) n) (ρ ⊗ cellsOf q S g r n))
       ∙ sym (held-polynomial q (raisedPart (symbols q) q S i g c ρ) r n hr hn)
 
   -- "new f_i is f_i - r·x^(-c)·g_i'"
   pub replaced-cells : (i g h c : ℕ) (ρ : K) → ((r n : ℕ) → r < q → n < width q → h ≤ n → cellsOf q S g r n ≡ symbols q .𝟘)
       → (p r n : ℕ) → p < 2 * q → r < 2 * q → n < width q
-      → polynomialAdded q (q + i) g h c ρ (2 * q) (cellsOf q S) p r n
+      → polynomialReduced q (q + i) g h c ρ (2 * q) (cellsOf q S) p r n
       ≡ cellsOf q (replaced (symbols q) q i (polynomial (symbols q) q (reducedPart (symbols q) q S i g c ρ)) S) p r n
-  unfolding polynomialAdded replaced
+  unfolding polynomialReduced replaced
   replaced-cells i g h c ρ short p r n hp hr hn =
       ⊎-elim
       (λ (e : p ≡ q + i).
@@ -92,7 +89,7 @@ module _ (q : ℕ) (known : Known q) (S : Polynomials (symbols q) q) where
       (same-or-not p (q + i))
     where
       F : ℕ → ℕ → K
-      F r = plusMultiple q (cellsOf q S (q + i) r) ρ c (firstSymbols q (rowHeight q h r) (cellsOf q S g r))
+      F r = minusMultiple q (cellsOf q S (q + i) r) ρ c (firstSymbols q (rowHeight q h r) (cellsOf q S g r))
 
       made : Polynomial (symbols q) q
       made = polynomial (symbols q) q (reducedPart (symbols q) q S i g c ρ)
@@ -137,7 +134,7 @@ module _ (q : ℕ) (known : Known q) (S : Polynomials (symbols q) q) where
       (same-or-not p (q + i))
     where
       F : ℕ → ℕ → K
-      F r = raisedPlus q (cellsOf q S (q + i) r) ρ c (cellsOf q S g r)
+      F r = raisedMinus q (cellsOf q S (q + i) r) ρ c (cellsOf q S g r)
 
       above : Cells q
       above = withRows q (q + i) 0 (2 * q) F (cellsOf q S)
@@ -187,26 +184,25 @@ module _ (q : ℕ) (known : Known q) (S : Polynomials (symbols q) q) where
     -- "w_i ≠ w, c ≤ 0"
     pub changed-reduced : (h : ℕ) → ((r n : ℕ) → r < q → n < width q → h ≤ n → cellsOf q S (P .partner) r n ≡ symbols q .𝟘)
         → (number q (P .w) ≡ number q ω → ⊥) → positivePart (P .c) ≡ 0 → (p r n : ℕ) → p < 2 * q → r < 2 * q → n < width q
-        → polynomialAdded q (q + i) (P .partner) h (negativePart (P .c)) (ratio (symbols q) q ω P) (2 * q) (cellsOf q S) p r n
+        → polynomialReduced q (q + i) (P .partner) h (negativePart (P .c)) (ratio (symbols q) q ω P) (2 * q) (cellsOf q S) p r n
         ≡ cellsOf q (changed (symbols q) q ω i P S) p r n
     changed-reduced h short ne none p r n hp hr hn =
         replaced-cells i (P .partner) h (negativePart (P .c)) (ratio (symbols q) q ω P) short p r n hp hr hn
         ∙ ap (λ (T : Polynomials (symbols q) q). cellsOf q T p r n) (sym (changed-is false false (ne-eqb _ _ ne) (le-ltb 0 (positivePart (P .c)) (omega arith))))
 
 -- the code's r
-pub ratio-is : (q : ℕ) → Known q → (ω : Sym q) (P : Pairing (symbols q) q) (vote w mu nu product inverse r : ℕ)
+pub ratio-is : (q : ℕ) → Known q → (ω : Sym q) (P : Pairing (symbols q) q) (vote w mu nu difference product inverse r : ℕ)
     → vote ≡ number q ω → w ≡ number q (P .w) → mu ≡ number q (P .μ) → nu ≡ number q (P .ν)
-    → product ≡ number q (symbols q ._⊗_ (symbol q mu) (symbol q (bitXor vote w)))
+    → difference ≡ differenceOf q vote w
+    → product ≡ number q (symbols q ._⊗_ (symbol q mu) (symbol q difference))
     → inverse ≡ number q (symbols q .inverse (symbol q nu))
     → r ≡ number q (symbols q ._⊗_ (symbol q product) (symbol q inverse))
     → r ≡ number q (ratio (symbols q) q ω P)
 unfolding ratio
-ratio-is q known ω P vote w mu nu product inverse r ev ew eu en ep ei er =
+ratio-is q known ω P vote w mu nu difference product inverse r ev ew eu en ed ep ei er =
     let back = laws-of q known .symbol-number in
-    let difference : bitXor (number q ω) (number q (P .w)) ≡ number q (symbols q ._⊖_ ω (P .w)) =
-    number-of-sum q known ω (P .w) ∙ ap (number q) (sym (minus-is-plus q ω (P .w))) in
     er
-    ∙ (rw (ep, ei, eu, en, ev, ew, difference, back (P .μ), back (P .ν), back (symbols q ._⊖_ ω (P .w)), back (symbols q .inverse (P .ν)), back (symbols q ._⊗_ (P .μ) (symbols q ._⊖_ ω (P .w)))))
+    ∙ (rw (ep, ei, eu, en, ed, ev, ew, number-of-difference q known ω (P .w), back (P .μ), back (P .ν), back (symbols q ._⊖_ ω (P .w)), back (symbols q .inverse (P .ν)), back (symbols q ._⊗_ (P .μ) (symbols q ._⊖_ ω (P .w)))))
 
 module _ (q : ℕ) (S : Polynomials (symbols q) q) where
   open Symbols (symbols q) using (K)

@@ -11,15 +11,15 @@ use Rattle.algebra.specs.Symbols.{Symbols}
 use Rattle.algebra.specs.Functions.{shift}
 use Rattle.lists.proofs.Numbers.{lt-or-ge, same-or-not}
 use Rattle.symbols.specs.Rule.{Known, symbols}
-use Rattle.workarea.specs.Area.{Cells, withRows, firstSymbols, plusMultiple, raisedPlus, rowAdded, rowExchanged}
-use Rattle.updates.specs.Updates.{rowHeight, polynomialAdded, polynomialsExchanged}
+use Rattle.workarea.specs.Area.{Cells, withRows, firstSymbols, minusMultiple, raisedMinus, rowMade, rowSubtracted, rowExchanged}
+use Rattle.updates.specs.Updates.{rowHeight, polynomialReduced, polynomialsExchanged}
 use Rattle.workarea.proofs.Cells.{rows-in, rows-out, rows-are, row-here, row-there}
 use Rattle.workarea.proofs.FirstSymbols.{first-cong}
-use Rattle.workarea.proofs.RowLaws.{plus-is, raised-is}
+use Rattle.workarea.proofs.RowLaws.{multiple-is, raised-is}
 use Rattle.algebra.proofs.Shifts.{shift-cong}
 
 module _ (q : ℕ) where
-  -- how many symbols of an upper row are added, and of a lower one
+  -- how many symbols of an upper row are subtracted, and of a lower one
   pub height-upper : (h r : ℕ) → r < q → rowHeight q h r ≡ h
   unfolding rowHeight
   height-upper h r l = subst (λ (t : Bool). _≡_ {A = ℕ} (elim t [ true ↦ h | false ↦ width q ]) h) (sym (lt-ltb r q l)) refl
@@ -33,36 +33,36 @@ none : (d r : ℕ) → (r < d) ⊎ (d + 0 ≤ r)
 none d r = ⊎-elim (λ (h : r < d). inl h) (λ (h : d ≤ r). inr (omega arith)) (lt-or-ge r d)
 
 module _ (q : ℕ) (known : Known q) (f g c : ℕ) (apart : f ≡ g → ⊥) (ρ : symbols q .K) where
-  infixl 65 _⊕_
+  infixl 65 _⊖_
   infixl 70 _⊗_
-  open Symbols (symbols q) using (K, _⊕_, _⊗_)
+  open Symbols (symbols q) using (K, _⊖_, _⊗_)
 
-  -- sums of equal rows
-  plus-cong : (a a′ b b′ : ℕ → K) (i : ℕ) → a i ≡ a′ i → ((n : ℕ) → b n ≡ b′ n) → plusMultiple q a ρ c b i ≡ plusMultiple q a′ ρ c b′ i
-  plus-cong a a′ b b′ i ea eb =
-      plus-is q known a ρ c b i
-      ∙ ap (λ (y : K). y ⊕ ρ ⊗ shift (symbols q) q c b i) ea
-      ∙ ap (λ (y : K). a′ i ⊕ ρ ⊗ y) (shift-cong (symbols q) q c i (λ n l. eb n))
-      ∙ sym (plus-is q known a′ ρ c b′ i)
+  -- differences of equal rows
+  minus-cong : (a a′ b b′ : ℕ → K) (i : ℕ) → a i ≡ a′ i → ((n : ℕ) → b n ≡ b′ n) → minusMultiple q a ρ c b i ≡ minusMultiple q a′ ρ c b′ i
+  minus-cong a a′ b b′ i ea eb =
+      multiple-is q known _⊖_ a ρ c b i
+      ∙ ap (λ (y : K). y ⊖ ρ ⊗ shift (symbols q) q c b i) ea
+      ∙ ap (λ (y : K). a′ i ⊖ ρ ⊗ y) (shift-cong (symbols q) q c i (λ n l. eb n))
+      ∙ sym (multiple-is q known _⊖_ a′ ρ c b′ i)
 
-  raised-cong : (a a′ b b′ : ℕ → K) (i : ℕ) → ((n : ℕ) → a n ≡ a′ n) → b i ≡ b′ i → raisedPlus q a ρ c b i ≡ raisedPlus q a′ ρ c b′ i
+  raised-cong : (a a′ b b′ : ℕ → K) (i : ℕ) → ((n : ℕ) → a n ≡ a′ n) → b i ≡ b′ i → raisedMinus q a ρ c b i ≡ raisedMinus q a′ ρ c b′ i
   raised-cong a a′ b b′ i ea eb =
       raised-is q known a ρ c b i
-      ∙ ap (λ (y : K). y ⊕ ρ ⊗ b i) (shift-cong (symbols q) q c i (λ n l. ea n))
-      ∙ ap (λ (y : K). shift (symbols q) q c a′ i ⊕ ρ ⊗ y) eb
+      ∙ ap (λ (y : K). y ⊖ ρ ⊗ b i) (shift-cong (symbols q) q c i (λ n l. ea n))
+      ∙ ap (λ (y : K). shift (symbols q) q c a′ i ⊖ ρ ⊗ y) eb
       ∙ sym (raised-is q known a′ ρ c b′ i)
 
   module _ (S : Cells q) where
-    -- f + ρ·x^c·g: no row yet, and one row more
-    pub added-none : (height p r i : ℕ) → S p r i ≡ polynomialAdded q f g height c ρ 0 S p r i
-    unfolding polynomialAdded
-    added-none height p r i =
-        sym (rows-out q f 0 0 (λ r. plusMultiple q (S f r) ρ c (firstSymbols q (rowHeight q height r) (S g r))) S p r i (λ e. none 0 r))
+    -- f - ρ·x^c·g: no row yet, and one row more
+    pub reduced-none : (height p r i : ℕ) → S p r i ≡ polynomialReduced q f g height c ρ 0 S p r i
+    unfolding polynomialReduced
+    reduced-none height p r i =
+        sym (rows-out q f 0 0 (λ r. minusMultiple q (S f r) ρ c (firstSymbols q (rowHeight q height r) (S g r))) S p r i (λ e. none 0 r))
 
-    pub added-more : (height n p r i : ℕ)
-        → rowAdded q f n g n (rowHeight q height n) c ρ (polynomialAdded q f g height c ρ n S) p r i ≡ polynomialAdded q f g height c ρ (n + 1) S p r i
-    unfolding polynomialAdded rowAdded
-    added-more height n =
+    pub reduced-more : (height n p r i : ℕ)
+        → rowSubtracted q f n g n (rowHeight q height n) c ρ (polynomialReduced q f g height c ρ n S) p r i ≡ polynomialReduced q f g height c ρ (n + 1) S p r i
+    unfolding polynomialReduced rowMade
+    reduced-more height n =
         rows-are q f 0 (n + 1) F S (withRows q f n 1 (λ m. new) done)
         (λ j i h. ⊎-elim
         (λ (l : j < n). row-there q f n new done f (0 + j) i (λ e z. omega arith) ∙ rows-in q f 0 n F S j i l)
@@ -71,7 +71,7 @@ module _ (q : ℕ) (known : Known q) (f g c : ℕ) (apart : f ≡ g → ⊥) (ρ
         let y : 0 + n ≡ n = omega arith in
         rw (z, y)
         (row-here q f n new done i
-        ∙ plus-cong (done f n) (S f n) (first (done g n)) (first (S g n)) i (old f n i (λ e. inr (omega arith)))
+        ∙ minus-cong (done f n) (S f n) (first (done g n)) (first (S g n)) i (old f n i (λ e. inr (omega arith)))
         (λ m. first-cong q (rowHeight q height n) (done g n) (S g n) m (old g n m (λ e. absurd (apart (sym e)))))))
         (lt-or-ge j n))
         (λ p r i out.
@@ -79,7 +79,7 @@ module _ (q : ℕ) (known : Known q) (f g c : ℕ) (apart : f ≡ g → ⊥) (ρ
         ∙ old p r i (λ e. ⊎-elim (λ (h : r < 0). inl h) (λ (h : 0 + (n + 1) ≤ r). inr (omega arith)) (out e)))
       where
         F : ℕ → ℕ → K
-        F r = plusMultiple q (S f r) ρ c (firstSymbols q (rowHeight q height r) (S g r))
+        F r = minusMultiple q (S f r) ρ c (firstSymbols q (rowHeight q height r) (S g r))
 
         first : (ℕ → K) → ℕ → K
         first = firstSymbols q (rowHeight q height n)
@@ -88,17 +88,17 @@ module _ (q : ℕ) (known : Known q) (f g c : ℕ) (apart : f ≡ g → ⊥) (ρ
         done = withRows q f 0 n F S
 
         new : ℕ → K
-        new = plusMultiple q (done f n) ρ c (first (done g n))
+        new = minusMultiple q (done f n) ρ c (first (done g n))
 
         old : (p r i : ℕ) → (p ≡ f → (r < 0) ⊎ (0 + n ≤ r)) → done p r i ≡ S p r i
         old = rows-out q f 0 n F S
 
-    -- x^c·f + ρ·g, and f in the place of g: no row yet, and one row more
+    -- x^c·f - ρ·g, and f in the place of g: no row yet, and one row more
     pub exchanged-none : (p r i : ℕ) → S p r i ≡ polynomialsExchanged q f g c ρ 0 S p r i
     unfolding polynomialsExchanged
     exchanged-none p r i =
-        sym (rows-out q g 0 0 (S f) (withRows q f 0 0 (λ r. raisedPlus q (S f r) ρ c (S g r)) S) p r i (λ e. none 0 r)
-        ∙ rows-out q f 0 0 (λ r. raisedPlus q (S f r) ρ c (S g r)) S p r i (λ e. none 0 r))
+        sym (rows-out q g 0 0 (S f) (withRows q f 0 0 (λ r. raisedMinus q (S f r) ρ c (S g r)) S) p r i (λ e. none 0 r)
+        ∙ rows-out q f 0 0 (λ r. raisedMinus q (S f r) ρ c (S g r)) S p r i (λ e. none 0 r))
 
     pub exchanged-more : (n p r i : ℕ)
         → rowExchanged q f g n c ρ (polynomialsExchanged q f g c ρ n S) p r i ≡ polynomialsExchanged q f g c ρ (n + 1) S p r i
@@ -112,7 +112,7 @@ module _ (q : ℕ) (known : Known q) (f g c : ℕ) (apart : f ≡ g → ⊥) (ρ
         (λ p r i out. ⊎-elim (λ (e : p ≡ f). rw e (first r i)) (λ ne. other p r i ne out) (same-or-not p f))
       where
         F : ℕ → ℕ → K
-        F r = raisedPlus q (S f r) ρ c (S g r)
+        F r = raisedMinus q (S f r) ρ c (S g r)
 
         inner : Cells q
         inner = withRows q f 0 n F S
@@ -121,7 +121,7 @@ module _ (q : ℕ) (known : Known q) (f g c : ℕ) (apart : f ≡ g → ⊥) (ρ
         done = withRows q g 0 n (S f) inner
 
         new : ℕ → K
-        new = raisedPlus q (done f n) ρ c (done g n)
+        new = raisedMinus q (done f n) ρ c (done g n)
 
         mid : Cells q
         mid = withRows q f n 1 (λ m. new) done

@@ -1,5 +1,6 @@
 // The update of a pair: one polynomial reduced by another, or both exchanged.
 use stepvotes::Pair;
+use workarea::Row;
 ghost use mathlib.Core.Path.{_≡_};
 ghost use Prim.Native.Nat.{ℕ, _*_, _<_};
 ghost use lib.ListN.{length};
@@ -10,7 +11,7 @@ ghost use Rattle.published.specs.Start.{Polynomials};
 ghost use Rattle.published.specs.Pairing.{Pairing};
 ghost use Rattle.published.specs.Steps.{ratio, changed, updated};
 ghost use Rattle.workarea.specs.Area.{Area, cellsOf, Turns, Multiplies};
-ghost use Rattle.updates.specs.Updates.{rowHeight, polynomialAdded, polynomialsExchanged};
+ghost use Rattle.updates.specs.Updates.{rowHeight, polynomialReduced, polynomialsExchanged};
 ghost use Rattle.workarea.specs.Heights.{Heights, Below, BecomesBelow};
 ghost use Rattle.stepvotes.specs.Pairs.{Held, NumbersOf, pairAt};
 
@@ -22,9 +23,9 @@ fn row_height(q: usize, r: usize, height: usize) -> usize
     if r < q { height } else { workarea::width_of(q) }
 }
 
-// Polynomial f becomes f + ρ·x^shift·g, where `products` is the table row of ρ and g's upper rows have no more than `height`
+// Polynomial f becomes f - ρ·x^shift·g, where `products` is the table row of ρ and g's upper rows have no more than `height`
 // symbols.
-fn add_polynomial(
+fn reduce_polynomial(
     work: &mut [u8],
     q: usize,
     f: usize,
@@ -35,15 +36,23 @@ fn add_polynomial(
 )
     requires { ⌜ Area q (length (now work)) ⌝ }
     requires { ⌜ (f < 2 * q) × (g < 2 * q) × (f ≡ g → ⊥) ⌝ }
-    ensures { λ _. ⌜ ((ρ : Sym q) → Multiplies q products ρ → Turns q (now (work .entry)) (now (work .exit)) (polynomialAdded q f g height shift ρ (2 * q))) ⌝ }
+    ensures { λ _. ⌜ ((ρ : Sym q) → Multiplies q products ρ → Turns q (now (work .entry)) (now (work .exit)) (polynomialReduced q f g height shift ρ (2 * q))) ⌝ }
 {
     for r in 0..2 * q {
         let count = row_height(q, r, height);
-        workarea::add_row(work, q, f, r, g, r, count, shift, products);
+        let to = Row {
+            polynomial: f,
+            row: r,
+        };
+        let from = Row {
+            polynomial: g,
+            row: r,
+        };
+        workarea::subtract_row(work, q, to, from, count, shift, products);
     }
 }
 
-// Polynomial f becomes x^shift·f + ρ·g, where `products` is the table row of ρ, and polynomial g becomes what f was.
+// Polynomial f becomes x^shift·f - ρ·g, where `products` is the table row of ρ, and polynomial g becomes what f was.
 fn exchange_polynomials(
     work: &mut [u8],
     q: usize,
@@ -61,13 +70,14 @@ fn exchange_polynomials(
     }
 }
 
-// r = μ_i(w + w_i)/ν.
+// r = μ_i(w - w_i)/ν.
 fn ratio_of(table: &[u8], q: usize, vote: u8, w: u8, mu: u8, nu: u8) -> u8
     requires { ⌜ Known q × HasProducts q (now table) ⌝ }
     ensures { λ r. ⌜ ((ω : Sym q) (P : Pairing (symbols q) q) → vote ≡ number q ω → w ≡ number q (P .w) → mu ≡ number q (P .μ) → nu ≡ number q (P .ν)
         → r ≡ number q (ratio (symbols q) q ω P)) ⌝ }
 {
-    let product = symbols::product_in(table, q, mu, vote ^ w);
+    let difference = symbols::difference(q, vote, w);
+    let product = symbols::product_in(table, q, mu, difference);
     let inverse = symbols::inverse(q, nu);
     symbols::product_in(table, q, product, inverse)
 }
@@ -106,7 +116,7 @@ fn change(
         return;
     }
     let shift = -c as usize;
-    add_polynomial(work, q, f, g, heights[g], shift, products);
+    reduce_polynomial(work, q, f, g, heights[g], shift, products);
     workarea::add_heights(heights, q, f, g, shift);
 }
 

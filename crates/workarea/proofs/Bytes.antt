@@ -3,7 +3,7 @@
 use mathlib.Core.Path.{_≡_, refl, sym, ap, _∙_}
 use mathlib.Core.List.{List, [], _∷_, _++_, append-assoc}
 use mathlib.Core.Logic.{_⊎_, inl, inr, ⊎-elim}
-use Prim.Native.Nat.{ℕ, suc, _+_, _-_, _%_, _<_, _≤_}
+use Prim.Native.Nat.{ℕ, suc, _+_, _-_, _<_, _≤_}
 use native.Mathlib.Nat.{add-zero}
 use native.Mathlib.Numerals.{add-one}
 use native.Mathlib.Omega.{arith}
@@ -11,24 +11,25 @@ use lib.ListN.{length, getD, set, drop, replicate, length-replicate, replicate-a
 use lib.Seq.{drop-cons, set-at}
 use Rattle.lists.specs.Tables.{put}
 use Rattle.lists.proofs.Put.{put-none, put-more, put-out, put-same, put-parts-back, set-put}
-use Rattle.workarea.specs.Area.{sumByte, summed, raisedByte, exchangedAbove, exchangedBelow}
+use Rattle.workarea.specs.Area.{madeByte, made, raisedByte, exchangedAbove, negativeByte, exchangedBelow}
 
--- no byte of the sum is stored yet
-pub sum-none : (l : List ℕ) (to from : ℕ) (products : List ℕ) → summed l to from 0 products ≡ l
-unfolding summed
-sum-none l to from products = put-none l to (sumByte l to from products)
+module _ (operation : ℕ → ℕ → ℕ) where
+  -- no byte is stored yet
+  pub made-none : (l : List ℕ) (to from : ℕ) (products : List ℕ) → made operation l to from 0 products ≡ l
+  unfolding made
+  made-none l to from products = put-none l to (madeByte operation l to from products)
 
--- the next byte of the sum is stored
-pub sum-more : (l w : List ℕ) (to from count : ℕ) (products : List ℕ) (i : ℕ) → (to + count ≤ from) ⊎ (from + count ≤ to) → i < count
-    → w ≡ summed l to from i products
-    → set w (to + i) (sumByte w to from products i) ≡ summed l to from (i + 1) products
-unfolding summed
-sum-more l w to from count products i apart more e =
-    let f = sumByte l to from products in
-    let here : getD (put l to i f) (to + i) 0 ≡ getD l (to + i) 0 = put-out l to i f (to + i) 0 (inr (omega arith)) in
-    let there : getD (put l to i f) (from + i) 0 ≡ getD l (from + i) 0 =
-    put-out l to i f (from + i) 0 (⊎-elim (λ h. inr (omega arith)) (λ h. inl (omega arith)) apart) in
-    rw (e, here, there) (put-more l to i f)
+  -- the next byte is stored
+  pub made-more : (l w : List ℕ) (to from count : ℕ) (products : List ℕ) (i : ℕ) → (to + count ≤ from) ⊎ (from + count ≤ to) → i < count
+      → w ≡ made operation l to from i products
+      → set w (to + i) (madeByte operation w to from products i) ≡ made operation l to from (i + 1) products
+  unfolding made
+  made-more l w to from count products i apart more e =
+      let f = madeByte operation l to from products in
+      let here : getD (put l to i f) (to + i) 0 ≡ getD l (to + i) 0 = put-out l to i f (to + i) 0 (inr (omega arith)) in
+      let there : getD (put l to i f) (from + i) 0 ≡ getD l (from + i) 0 =
+      put-out l to i f (from + i) 0 (⊎-elim (λ h. inr (omega arith)) (λ h. inl (omega arith)) apart) in
+      rw (e, here, there) (put-more l to i f)
 
 -- a run with one place more in front
 put-first : (l : List ℕ) (at i n : ℕ) (F : ℕ → ℕ)
@@ -46,18 +47,18 @@ put-first l at i n F =
     one w = rw (add-zero (at + i), add-zero i)
 
 -- none of the bytes above is exchanged yet
-pub above-none : (l : List ℕ) (f g shift : ℕ) (products : List ℕ) (i : ℕ) → exchangedAbove l f g shift products i 0 ≡ l
+pub above-none : (q : ℕ) (l : List ℕ) (f g shift : ℕ) (products : List ℕ) (i : ℕ) → exchangedAbove q l f g shift products i 0 ≡ l
 unfolding exchangedAbove put
-above-none l f g shift products i = refl
+above-none q l f g shift products i = refl
 
 -- the next bytes below are exchanged
-pub above-more : (l w : List ℕ) (f g shift width : ℕ) (products : List ℕ) (i : ℕ) → (f + width ≤ g) ⊎ (g + width ≤ f) → i < width
-    → w ≡ exchangedAbove l f g shift products (i + 1) (width - (i + 1))
-    → set (set w (f + i) (raisedByte w f g shift products i)) (g + i) (getD w (f + i) 0) ≡ exchangedAbove l f g shift products i (width - i)
+pub above-more : (q : ℕ) (l w : List ℕ) (f g shift width : ℕ) (products : List ℕ) (i : ℕ) → (f + width ≤ g) ⊎ (g + width ≤ f) → i < width
+    → w ≡ exchangedAbove q l f g shift products (i + 1) (width - (i + 1))
+    → set (set w (f + i) (raisedByte q w f g shift products i)) (g + i) (getD w (f + i) 0) ≡ exchangedAbove q l f g shift products i (width - i)
 unfolding exchangedAbove
-above-more l w f g shift width products i apart more e =
+above-more q l w f g shift width products i apart more e =
     let n = width - (i + 1) in
-    let F = raisedByte l f g shift products in
+    let F = raisedByte q l f g shift products in
     let G : ℕ → ℕ = λ k. getD l (f + k) 0 in
     let inner = put l (f + (i + 1)) n (λ k. F (i + 1 + k)) in
     let length-is : width - i ≡ n + 1 = omega arith in
@@ -74,17 +75,17 @@ above-more l w f g shift width products i apart more e =
     ∙ ap (λ (w : List ℕ). put w (g + i) (n + 1) (λ k. G (i + k))) (put-first l f i n F))
 
 -- none of the bytes below is exchanged yet
-pub below-none : (l : List ℕ) (f g : ℕ) (products : List ℕ) → exchangedBelow l f g products 0 ≡ l
+pub below-none : (q : ℕ) (l : List ℕ) (f g : ℕ) (products : List ℕ) → exchangedBelow q l f g products 0 ≡ l
 unfolding exchangedBelow put
-below-none l f g products = refl
+below-none q l f g products = refl
 
 -- the next bytes are exchanged
-pub below-more : (l w : List ℕ) (f g count : ℕ) (products : List ℕ) (i : ℕ) → (f + count ≤ g) ⊎ (g + count ≤ f) → i < count
-    → w ≡ exchangedBelow l f g products i
-    → set (set w (f + i) (getD products (getD w (g + i) 0 % 16) 0)) (g + i) (getD w (f + i) 0) ≡ exchangedBelow l f g products (i + 1)
+pub below-more : (q : ℕ) (l w : List ℕ) (f g count : ℕ) (products : List ℕ) (i : ℕ) → (f + count ≤ g) ⊎ (g + count ≤ f) → i < count
+    → w ≡ exchangedBelow q l f g products i
+    → set (set w (f + i) (negativeByte q w g products i)) (g + i) (getD w (f + i) 0) ≡ exchangedBelow q l f g products (i + 1)
 unfolding exchangedBelow
-below-more l w f g count products i apart more e =
-    let F : ℕ → ℕ = λ k. getD products (getD l (g + k) 0 % 16) 0 in
+below-more q l w f g count products i apart more e =
+    let F = negativeByte q l g products in
     let G : ℕ → ℕ = λ k. getD l (f + k) 0 in
     let at-f : getD (put (put l f i F) g i G) (f + i) 0 ≡ getD l (f + i) 0 =
     put-out (put l f i F) g i G (f + i) 0 (⊎-elim (λ p. inl (omega arith)) (λ p. inr (omega arith)) apart)

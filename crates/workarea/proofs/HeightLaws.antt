@@ -4,7 +4,7 @@ use mathlib.Core.Path.{_≡_, refl, sym, subst}
 use mathlib.Core.Bool.{Bool, true, false}
 use mathlib.Core.Logic.{_⊎_, inl, inr, ⊎-elim}
 use mathlib.Core.List.{List}
-use Prim.Native.Nat.{ℕ, _+_, _-_, _*_, _<_, _≤_}
+use Prim.Native.Nat.{ℕ, _-_, _*_, _<_, _≤_}
 use native.Mathlib.Omega.{arith}
 use lib.ListN.{set, length-set}
 use lib.Seq.{getD-set-same, getD-set-other}
@@ -12,6 +12,7 @@ use borrow.Author.Tests.{le-leb, lt-leb}
 use Rattle.lists.proofs.Numbers.{lt-or-ge, same-or-not}
 use Rattle.symbols.specs.Rule.{Known}
 use Rattle.published.specs.Start.{width}
+use Rattle.workarea.specs.Area.{Counted}
 use Rattle.workarea.specs.Heights.{Heights, AtStart, smaller, larger, heightOfSum, heightsAdded, heightsExchanged}
 use Rattle.workarea.proofs.Sizes.{sizes}
 
@@ -57,12 +58,7 @@ largest a b =
     (λ (h : a ≤ b). subst (Largest a b) (sym (larger-second a b h)) (record { first = omega arith; second = omega arith }))
     (lt-or-ge b a)
 
--- how many symbols of a row of `height` are added from place `shift` on: all of them, as far as the row goes
-pub record Counted (wide shift height n : ℕ) : Type 0 where
-  pub within : shift + n ≤ wide
-  pub few : n ≤ height
-  pub all : (height ≤ n) ⊎ (wide ≤ shift + n)
-
+-- the smaller of the height and of what is left of the row is the count
 pub count : (wide shift height : ℕ) → shift < wide → Counted wide shift height (smaller height (wide - shift))
 count wide shift height narrow =
     let s = smallest height (wide - shift) in

@@ -4,40 +4,44 @@
 use mathlib.Core.Path.{_≡_}
 use mathlib.Core.Bool.{true, false, _&&_}
 use mathlib.Core.List.{List, _++_}
+use mathlib.Core.Logic.{_⊎_}
 use Prim.Native.Nat.{ℕ, _+_, _-_, _*_, _/_, _%_, _<_, _≤_}
-use lib.Bits.{bitXor}
 use lib.Dec.{eqb, leb, ltb}
 use lib.ListN.{getD}
 use Rattle.algebra.specs.Symbols.{Symbols}
 use Rattle.algebra.specs.Functions.{shift}
 use Rattle.lists.specs.Tables.{put}
-use Rattle.symbols.specs.Rule.{Known, symbols, number}
+use Rattle.symbols.specs.Rule.{Known, differenceOf, symbols, number}
 use Rattle.published.specs.Start.{Polynomials, coefficient, width}
 use Rattle.published.specs.Picture.{areaSize, layout, picture}
+use Rattle.workarea.specs.declared.area.Row.{Row}
 
 -- ---- the bytes of a row
 
--- the byte at `from` times what `products` is the table row of, added to the byte at `to`
-abbrev pub sumByte : List ℕ → ℕ → ℕ → List ℕ → ℕ → ℕ
-sumByte l to from products i = bitXor (getD l (to + i) 0) (getD products (getD l (from + i) 0 % 16) 0)
+-- the byte at `to` and the one at `from` times what `products` is the table row of, made one by an operation: sum or difference
+abbrev pub madeByte : (ℕ → ℕ → ℕ) → List ℕ → ℕ → ℕ → List ℕ → ℕ → ℕ
+madeByte operation l to from products i = operation (getD l (to + i) 0) (getD products (getD l (from + i) 0 % 16) 0)
 
--- the n bytes from `to` on with a multiple of those from `from` on added
-unfoldable pub summed : List ℕ → ℕ → ℕ → ℕ → List ℕ → List ℕ
-summed l to from n products = put l to n (sumByte l to from products)
+-- the n bytes from `to` on with a multiple of those from `from` on added to them, or subtracted
+unfoldable pub made : (ℕ → ℕ → ℕ) → List ℕ → ℕ → ℕ → ℕ → List ℕ → List ℕ
+made operation l to from n products = put l to n (madeByte operation l to from products)
 
--- the byte `shift` places below, plus the byte of the other row times what `products` is the table row of
-abbrev pub raisedByte : List ℕ → ℕ → ℕ → ℕ → List ℕ → ℕ → ℕ
-raisedByte l f g shift products i = bitXor (getD l (f + (i - shift)) 0) (getD products (getD l (g + i) 0 % 16) 0)
+-- the byte `shift` places below, minus the byte of the other row times what `products` is the table row of
+abbrev pub raisedByte : ℕ → List ℕ → ℕ → ℕ → ℕ → List ℕ → ℕ → ℕ
+raisedByte q l f g shift products i = differenceOf q (getD l (f + (i - shift)) 0) (getD products (getD l (g + i) 0 % 16) 0)
 
 -- n bytes of both rows from place i on: f's become the raised ones, and g's become f's
-unfoldable pub exchangedAbove : List ℕ → ℕ → ℕ → ℕ → List ℕ → ℕ → ℕ → List ℕ
-exchangedAbove l f g shift products i n =
-    put (put l (f + i) n (λ k. raisedByte l f g shift products (i + k))) (g + i) n (λ k. getD l (f + (i + k)) 0)
+unfoldable pub exchangedAbove : ℕ → List ℕ → ℕ → ℕ → ℕ → List ℕ → ℕ → ℕ → List ℕ
+exchangedAbove q l f g shift products i n =
+    put (put l (f + i) n (λ k. raisedByte q l f g shift products (i + k))) (g + i) n (λ k. getD l (f + (i + k)) 0)
+
+-- zero, minus the byte of the other row times what `products` is the table row of
+abbrev pub negativeByte : ℕ → List ℕ → ℕ → List ℕ → ℕ → ℕ
+negativeByte q l g products i = differenceOf q 0 (getD products (getD l (g + i) 0 % 16) 0)
 
 -- the first n bytes of both rows, where nothing stands `shift` places below
-unfoldable pub exchangedBelow : List ℕ → ℕ → ℕ → List ℕ → ℕ → List ℕ
-exchangedBelow l f g products n =
-    put (put l f n (λ i. getD products (getD l (g + i) 0 % 16) 0)) g n (λ i. getD l (f + i) 0)
+unfoldable pub exchangedBelow : ℕ → List ℕ → ℕ → ℕ → List ℕ → ℕ → List ℕ
+exchangedBelow q l f g products n = put (put l f n (negativeByte q l g products)) g n (λ i. getD l (f + i) 0)
 
 -- ---- q is known, and n bytes have room for the area; with what follows for the code's numbers
 
@@ -53,10 +57,32 @@ pub record Area (q n : ℕ) : Type 0 where
 unfoldable pub rowPlace : ℕ → ℕ → ℕ → ℕ
 rowPlace q p r = (p * (2 * q) + r) * width q
 
+-- two different rows of the area
+pub record TwoRows (q : ℕ) (to from : Row) : Type 0 where
+  pub to-polynomial : to .polynomial < 2 * q
+  pub to-row : to .row < 2 * q
+  pub from-polynomial : from .polynomial < 2 * q
+  pub from-row : from .row < 2 * q
+  pub differ : to .polynomial ≡ from .polynomial → to .row ≡ from .row → ⊥
+
+-- how many symbols of a row of `height` go into a row from place `shift` on: all of them, as far as that row goes
+pub record Counted (wide shift height n : ℕ) : Type 0 where
+  pub within : shift + n ≤ wide
+  pub few : n ≤ height
+  pub all : (height ≤ n) ⊎ (wide ≤ shift + n)
+
+-- n bytes of one row, from place i on, that x^c times the first h symbols of another row reach, which stand from place k on
+pub record Reach (q : ℕ) (to from : Row) (h c i k n : ℕ) : Type 0 where
+  pub starts : rowPlace q (to .polynomial) (to .row) ≤ i
+  pub fits : i + n ≤ rowPlace q (to .polynomial) (to .row) + width q
+  pub short : n ≤ width q
+  pub other : k ≡ rowPlace q (from .polynomial) (from .row)
+  pub which : ((width q ≤ c) × (n ≡ 0)) ⊎ ((i ≡ rowPlace q (to .polynomial) (to .row) + c) × Counted (width q) c h n)
+
 module _ (q : ℕ) where
-  infixl 65 _⊕_
+  infixl 65 _⊖_
   infixl 70 _⊗_
-  open Symbols (symbols q) using (K, 𝟘, _⊕_, _⊗_)
+  open Symbols (symbols q) using (K, 𝟘, _⊕_, _⊖_, _⊗_)
 
   -- the symbol of polynomial p, row r, power i of x
   abbrev pub Cells : Type 0
@@ -103,18 +129,32 @@ module _ (q : ℕ) where
   unfoldable pub firstSymbols : ℕ → (ℕ → K) → ℕ → K
   firstSymbols h a i = elim (ltb i h) [ true ↦ a i | false ↦ 𝟘 ]
 
-  -- a row plus ρ·x^c times a row
-  unfoldable pub plusMultiple : (ℕ → K) → K → ℕ → (ℕ → K) → ℕ → K
-  plusMultiple a ρ c b i = a i ⊕ ρ ⊗ shift (symbols q) q c b i
+  -- a row and ρ·x^c times a row, made one by an operation
+  unfoldable pub withMultiple : (K → K → K) → (ℕ → K) → K → ℕ → (ℕ → K) → ℕ → K
+  withMultiple operation a ρ c b i = operation (a i) (ρ ⊗ shift (symbols q) q c b i)
 
-  -- row r of polynomial p becomes itself plus ρ·x^c times the first h symbols of row r′ of polynomial p′
-  unfoldable pub rowAdded : ℕ → ℕ → ℕ → ℕ → ℕ → ℕ → K → Cells → Cells
-  rowAdded p r p′ r′ h c ρ S = withRows p r 1 (λ n. plusMultiple (S p r) ρ c (firstSymbols h (S p′ r′))) S
+  -- their sum, and their difference
+  abbrev pub plusMultiple : (ℕ → K) → K → ℕ → (ℕ → K) → ℕ → K
+  plusMultiple = withMultiple _⊕_
 
-  -- x^c times a row plus ρ times a row
-  unfoldable pub raisedPlus : (ℕ → K) → K → ℕ → (ℕ → K) → ℕ → K
-  raisedPlus a ρ c b i = shift (symbols q) q c a i ⊕ ρ ⊗ b i
+  abbrev pub minusMultiple : (ℕ → K) → K → ℕ → (ℕ → K) → ℕ → K
+  minusMultiple = withMultiple _⊖_
 
-  -- row r of polynomial f becomes x^c times itself plus ρ times that of g, and row r of g becomes that of f
+  -- row r of polynomial p made one by an operation with ρ·x^c times the first h symbols of row r′ of polynomial p′
+  unfoldable pub rowMade : (K → K → K) → ℕ → ℕ → ℕ → ℕ → ℕ → ℕ → K → Cells → Cells
+  rowMade operation p r p′ r′ h c ρ S = withRows p r 1 (λ n. withMultiple operation (S p r) ρ c (firstSymbols h (S p′ r′))) S
+
+  -- it becomes itself plus that, or minus that
+  abbrev pub rowAdded : ℕ → ℕ → ℕ → ℕ → ℕ → ℕ → K → Cells → Cells
+  rowAdded = rowMade _⊕_
+
+  abbrev pub rowSubtracted : ℕ → ℕ → ℕ → ℕ → ℕ → ℕ → K → Cells → Cells
+  rowSubtracted = rowMade _⊖_
+
+  -- x^c times a row minus ρ times a row
+  unfoldable pub raisedMinus : (ℕ → K) → K → ℕ → (ℕ → K) → ℕ → K
+  raisedMinus a ρ c b i = shift (symbols q) q c a i ⊖ ρ ⊗ b i
+
+  -- row r of polynomial f becomes x^c times itself minus ρ times that of g, and row r of g becomes that of f
   unfoldable pub rowExchanged : ℕ → ℕ → ℕ → ℕ → K → Cells → Cells
-  rowExchanged f g r c ρ S = withRows g r 1 (λ n. S f r) (withRows f r 1 (λ n. raisedPlus (S f r) ρ c (S g r)) S)
+  rowExchanged f g r c ρ S = withRows g r 1 (λ n. S f r) (withRows f r 1 (λ n. raisedMinus (S f r) ρ c (S g r)) S)

@@ -7,7 +7,13 @@ ghost use lib.ListN.{length};
 ghost use Rattle.symbols.specs.Rule.{Known, Sym};
 ghost use Rattle.published.specs.Start.{width};
 ghost use Rattle.published.specs.Picture.{areaSize};
-ghost use Rattle.workarea.specs.Area.{Area, rowPlace, Turns, Multiplies, rowAdded, rowExchanged};
+ghost use Rattle.workarea.specs.Area.{Area, TwoRows, Reach, rowPlace, Turns, Multiplies, rowAdded, rowSubtracted, rowExchanged};
+
+// A row of the area.
+pub struct Row {
+    pub polynomial: usize,
+    pub row: usize,
+}
 
 // How many powers of x a row has.
 pub fn width_of(q: usize) -> usize
@@ -34,34 +40,75 @@ pub fn row_place(q: usize, p: usize, r: usize) -> usize
     (p * (2 * q) + r) * width_of(q)
 }
 
-// Adds to row r of polynomial p what `products` is the table row of, times x^shift, times the first `height` symbols of row r2 of
-// polynomial p2.
+// The bytes of two rows that take part in a sum or a difference: where they start, and how many there are.
+struct Run {
+    to: usize,
+    from: usize,
+    count: usize,
+}
+
+// Those of `to` that x^shift times the first `height` symbols of `from` reach: none where the shift is past the width.
+fn run_of(q: usize, to: Row, from: Row, height: usize, shift: usize) -> Run
+    requires { ⌜ Known q × TwoRows q to from ⌝ }
+    ensures { λ run. ⌜ Reach q to from height shift (run .to) (run .from) (run .count) ⌝ }
+{
+    let width = width_of(q);
+    let target = row_place(q, to.polynomial, to.row);
+    let source = row_place(q, from.polynomial, from.row);
+    if width <= shift {
+        return Run {
+            to: target,
+            from: source,
+            count: 0,
+        };
+    }
+    let count = heights::smaller(height, width - shift);
+    Run {
+        to: target + shift,
+        from: source,
+        count,
+    }
+}
+
+// Adds to a row what `products` is the table row of, times x^shift, times the first `height` symbols of another row.
 pub fn add_row(
     work: &mut [u8],
     q: usize,
-    p: usize,
-    r: usize,
-    p2: usize,
-    r2: usize,
+    to: Row,
+    from: Row,
     height: usize,
     shift: usize,
     products: [u8; 16],
 )
     requires { ⌜ Area q (length (now work)) ⌝ }
-    requires { ⌜ (p < 2 * q) × (r < 2 * q) × (p2 < 2 * q) × (r2 < 2 * q) × (p ≡ p2 → r ≡ r2 → ⊥) ⌝ }
-    ensures { λ _. ⌜ ((ρ : Sym q) → Multiplies q products ρ → Turns q (now (work .entry)) (now (work .exit)) (rowAdded q p r p2 r2 height shift ρ)) ⌝ }
+    requires { ⌜ TwoRows q to from ⌝ }
+    ensures { λ _. ⌜ ((ρ : Sym q) → Multiplies q products ρ
+        → Turns q (now (work .entry)) (now (work .exit)) (rowAdded q (to .polynomial) (to .row) (from .polynomial) (from .row) height shift ρ)) ⌝ }
 {
-    let width = width_of(q);
-    if width <= shift {
-        return;
-    }
-    let to = row_place(q, p, r);
-    let from = row_place(q, p2, r2);
-    let count = heights::smaller(height, width - shift);
-    rows::add_bytes(work, to + shift, from, count, products);
+    let run = run_of(q, to, from, height, shift);
+    rows::add_bytes(work, q, run.to, run.from, run.count, products);
 }
 
-// Row r of polynomial f becomes x^shift times itself plus the multiple of that of g, and row r of g becomes that of f.
+// Subtracts the same from it.
+pub fn subtract_row(
+    work: &mut [u8],
+    q: usize,
+    to: Row,
+    from: Row,
+    height: usize,
+    shift: usize,
+    products: [u8; 16],
+)
+    requires { ⌜ Area q (length (now work)) ⌝ }
+    requires { ⌜ TwoRows q to from ⌝ }
+    ensures { λ _. ⌜ ((ρ : Sym q) → Multiplies q products ρ
+        → Turns q (now (work .entry)) (now (work .exit)) (rowSubtracted q (to .polynomial) (to .row) (from .polynomial) (from .row) height shift ρ)) ⌝ }
+{
+    let run = run_of(q, to, from, height, shift);
+    rows::subtract_bytes(work, q, run.to, run.from, run.count, products);
+}
+
+// Row r of polynomial f becomes x^shift times itself minus the multiple of that of g, and row r of g becomes that of f.
 pub fn exchange_row(
     work: &mut [u8],
     q: usize,
@@ -79,9 +126,9 @@ pub fn exchange_row(
     let to = row_place(q, f, r);
     let from = row_place(q, g, r);
     if width <= shift {
-        rows::exchange_below(work, to, from, width, products);
+        rows::exchange_below(work, q, to, from, width, products);
         return;
     }
-    rows::exchange_above(work, to, from, shift, width, products);
-    rows::exchange_below(work, to, from, shift, products);
+    rows::exchange_above(work, q, to, from, shift, width, products);
+    rows::exchange_below(work, q, to, from, shift, products);
 }

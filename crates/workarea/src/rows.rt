@@ -1,11 +1,12 @@
-// Runs of bytes in the work area: the loops that clear bytes and that add a multiple of one row to another, with no call and no
-// branch inside.
+// Runs of bytes in the work area: the loops that clear bytes and that add a multiple of one row to another or subtract it, with
+// no branch inside and no call but the sum or the difference, which are one instruction each.
 ghost use mathlib.Core.Path.{_≡_};
 ghost use mathlib.Core.List.{_++_};
 ghost use mathlib.Core.Logic.{_⊎_};
 ghost use Prim.Native.Nat.{_+_, _-_, _≤_};
 ghost use lib.ListN.{length, drop, replicate};
-ghost use Rattle.workarea.specs.Area.{summed, exchangedAbove, exchangedBelow};
+ghost use Rattle.symbols.specs.Rule.{sumOf, differenceOf};
+ghost use Rattle.workarea.specs.Area.{made, exchangedAbove, exchangedBelow};
 
 // Sets the first `count` bytes to zero.
 pub fn clear(work: &mut [u8], count: usize)
@@ -18,21 +19,48 @@ pub fn clear(work: &mut [u8], count: usize)
 }
 
 // Adds to the bytes from `to` on the bytes from `from` on, each times what `products` is the table row of.
-pub fn add_bytes(work: &mut [u8], to: usize, from: usize, count: usize, products: [u8; 16])
+pub fn add_bytes(
+    work: &mut [u8],
+    q: usize,
+    to: usize,
+    from: usize,
+    count: usize,
+    products: [u8; 16],
+)
     requires { ⌜ (to + count ≤ length (now work)) × (from + count ≤ length (now work)) ⌝ }
     requires { ⌜ (to + count ≤ from) ⊎ (from + count ≤ to) ⌝ }
-    ensures { λ _. ⌜ now (work .exit) ≡ summed (now (work .entry)) to from count products ⌝ }
+    ensures { λ _. ⌜ now (work .exit) ≡ made (sumOf q) (now (work .entry)) to from count products ⌝ }
 {
     for i in 0..count {
         let factor = (work[from + i] % 16) as usize;
-        work[to + i] = work[to + i] ^ products[factor];
+        work[to + i] = symbols::sum(q, work[to + i], products[factor]);
     }
 }
 
-// From the last byte down to place `shift`: f's bytes become those `shift` places below plus the multiples of g's, and g's
+// Subtracts the same from them.
+pub fn subtract_bytes(
+    work: &mut [u8],
+    q: usize,
+    to: usize,
+    from: usize,
+    count: usize,
+    products: [u8; 16],
+)
+    requires { ⌜ (to + count ≤ length (now work)) × (from + count ≤ length (now work)) ⌝ }
+    requires { ⌜ (to + count ≤ from) ⊎ (from + count ≤ to) ⌝ }
+    ensures { λ _. ⌜ now (work .exit) ≡ made (differenceOf q) (now (work .entry)) to from count products ⌝ }
+{
+    for i in 0..count {
+        let factor = (work[from + i] % 16) as usize;
+        work[to + i] = symbols::difference(q, work[to + i], products[factor]);
+    }
+}
+
+// From the last byte down to place `shift`: f's bytes become those `shift` places below minus the multiples of g's, and g's
 // become f's. Going down, no byte is overwritten before it is read.
 pub fn exchange_above(
     work: &mut [u8],
+    q: usize,
     f: usize,
     g: usize,
     shift: usize,
@@ -42,28 +70,35 @@ pub fn exchange_above(
     requires { ⌜ (f + width ≤ length (now work)) × (g + width ≤ length (now work)) ⌝ }
     requires { ⌜ (f + width ≤ g) ⊎ (g + width ≤ f) ⌝ }
     requires { ⌜ shift ≤ width ⌝ }
-    ensures { λ _. ⌜ now (work .exit) ≡ exchangedAbove (now (work .entry)) f g shift products shift (width - shift) ⌝ }
+    ensures { λ _. ⌜ now (work .exit) ≡ exchangedAbove q (now (work .entry)) f g shift products shift (width - shift) ⌝ }
 {
     let mut i = width;
     while shift < i {
         i -= 1;
         let old = work[f + i];
         let factor = (work[g + i] % 16) as usize;
-        work[f + i] = work[f + (i - shift)] ^ products[factor];
+        work[f + i] = symbols::difference(q, work[f + (i - shift)], products[factor]);
         work[g + i] = old;
     }
 }
 
-// The first bytes of f become the multiples of g's, and g's become f's.
-pub fn exchange_below(work: &mut [u8], f: usize, g: usize, count: usize, products: [u8; 16])
+// The first bytes of f become zero minus the multiples of g's, and g's become f's.
+pub fn exchange_below(
+    work: &mut [u8],
+    q: usize,
+    f: usize,
+    g: usize,
+    count: usize,
+    products: [u8; 16],
+)
     requires { ⌜ (f + count ≤ length (now work)) × (g + count ≤ length (now work)) ⌝ }
     requires { ⌜ (f + count ≤ g) ⊎ (g + count ≤ f) ⌝ }
-    ensures { λ _. ⌜ now (work .exit) ≡ exchangedBelow (now (work .entry)) f g products count ⌝ }
+    ensures { λ _. ⌜ now (work .exit) ≡ exchangedBelow q (now (work .entry)) f g products count ⌝ }
 {
     for i in 0..count {
         let old = work[f + i];
         let factor = (work[g + i] % 16) as usize;
-        work[f + i] = products[factor];
+        work[f + i] = symbols::difference(q, 0, products[factor]);
         work[g + i] = old;
     }
 }

@@ -6,7 +6,7 @@ use Rattle.algebra.specs.Weights.{weight, xPower, yPower, gap, nongap}
 use Rattle.algebra.specs.Functions.{shift, timesX, timesY, timesYs, timesMonomial, monomialAt}
 use Rattle.algebra.specs.Interpolation.{unit, xPart, yPart}
 use Rattle.lists.specs.Tables.{from, tab, keep}
-use Rattle.symbols.specs.Rule.{size, reducedBy, twice, chosen, product, powerOf, inverseOf, Below, into, symbols}
+use Rattle.symbols.specs.Rule.{size, reducedBy, sumOf, differenceOf, twice, chosen, product, powerOf, inverseOf, Below, into, symbols}
 use Rattle.curve.specs.Points.{onCurve, pair, points, pointAt}
 use Rattle.curve.specs.Codes.{pointCount, nongaps, dimension, reach}
 use Rattle.curve.specs.Rows.{messageAt, rowOf}
@@ -24,7 +24,7 @@ use Rattle.worked.specs.Stated.{Stated, product2, powerOf2, gaps, ordina
 
 -- opens all that the table computes with
 unfoldable computing : Unit {0}
-unfolding same power sum weight xPower yPower gap nongap shift timesX timesY timesYs timesMonomial monomialAt unit xPart yPart from tab keep size reducedBy twice chosen product powerOf inverseOf Below into symbols onCurve pair points pointAt pointCount nongaps dimension reach messageAt rowOf rowNumbers width startWeight stepCount coefficient polynomial polynomials term h table ofTable vanishing one nothing negated startPart start degree isNegative positivePart negativePart isVoted partnerOf kOf best degreeOf degreeF degreeG leadF leadG looked inVotedStep inUnvotedStep pairing score vote substitutedPart substituted raisedPart reducedPart replaced exchanged ratio changed noPair updated pairings step after messageOf stateAfter votesAfter differing countOf judgement voted decoded is has terms pointNumbers powers polynomialAfter pairOne areaSize product2 powerOf2 gaps ordinates
+unfolding same power sum weight xPower yPower gap nongap shift timesX timesY timesYs timesMonomial monomialAt unit xPart yPart from tab keep size reducedBy sumOf differenceOf twice chosen product powerOf inverseOf Below into symbols onCurve pair points pointAt pointCount nongaps dimension reach messageAt rowOf rowNumbers width startWeight stepCount coefficient polynomial polynomials term h table ofTable vanishing one nothing negated startPart start degree isNegative positivePart negativePart isVoted partnerOf kOf best degreeOf degreeF degreeG leadF leadG looked inVotedStep inUnvotedStep pairing score vote substitutedPart substituted raisedPart reducedPart replaced exchanged ratio changed noPair updated pairings step after messageOf stateAfter votesAfter differing countOf judgement voted decoded is has terms pointNumbers powers polynomialAfter pairOne areaSize product2 powerOf2 gaps ordinates
 computing = tt
 
 pub worked : Table

@@ -10,10 +10,10 @@ use Rattle.encoder.proofs.value_in.Statement.{statement}
 use Rattle.encoder.proofs.value_in.Tie as tie
 
 abbrev Inv-loop : tie.InvT-loop
-Inv-loop products coefficients i₀ value₀ i value = (i < length coefficients) × IsPart products coefficients i value
+Inv-loop q products coefficients i₀ value₀ i value = (i < length coefficients) × IsPart q products coefficients i value
 
 abbrev μ-loop : tie.MeasureT-loop
-μ-loop products coefficients i₀ value₀ i value = i
+μ-loop q products coefficients i₀ value₀ i value = i
 
 sub-i : tie.Need-sub-i Inv-loop μ-loop
 sub-i c = search needs
@@ -23,40 +23,47 @@ shared-slice-read-value c = search needs
 
 loop-holds : tie.Need-loop-holds Inv-loop μ-loop
 loop-holds c =
-    (search needs, horner-last (now (c .before .args .products)) (now (c .before .args .coefficients)) (c .before .pre))
+    let start = c .before .before in
+    (search needs, horner-last (start .args .q) (now (start .args .products)) (now (start .args .coefficients)) (start .pre))
 
 sub-i-2 : tie.Need-sub-i-2 Inv-loop μ-loop
 sub-i-2 c = search needs
 
-cast-value : tie.Need-cast-value Inv-loop μ-loop
-cast-value c = search needs
+cast-sum : tie.Need-cast-sum Inv-loop μ-loop
+cast-sum c = search needs
 
-element-copy-out-value : tie.Need-element-copy-out-value Inv-loop μ-loop
-element-copy-out-value c = search needs
+element-copy-out-sum : tie.Need-element-copy-out-sum Inv-loop μ-loop
+element-copy-out-sum c = search needs
 
-shared-slice-read-value-2 : tie.Need-shared-slice-read-value-2 Inv-loop μ-loop
-shared-slice-read-value-2 c = search needs
+shared-slice-read-sum : tie.Need-shared-slice-read-sum Inv-loop μ-loop
+shared-slice-read-sum c = search needs
+
+sum-requires : tie.Need-sum-requires Inv-loop μ-loop
+sum-requires c κs = search needs
 
 loop-less : tie.Need-loop-less Inv-loop μ-loop
 loop-less c = search needs
 
 loop-again : tie.Need-loop-again Inv-loop μ-loop
 loop-again c =
-    let at = c .before .before .before in
-    let products = now (at .before .before .args .products) in
-    let coefficients = now (at .before .before .args .coefficients) in (
+    let at = c .before .before .before .before in
+    let start = at .before .before .before in
+    let products = now (start .args .products) in
+    let coefficients = now (start .args .coefficients) in (
       search needs,
-      horner-next products coefficients (at .loop .i) (at .loop .value) (omega arith) (omega arith) (at .loop .inv .1),
+      rw (c .sum .ensures) (horner-next (start .args .q) products coefficients (at .loop .i) (at .loop .value) (omega arith) (omega arith) (at .loop .inv .1)),
     )
 
 returns : tie.Need-returns Inv-loop μ-loop
 returns c =
     let at = c .before in
-    let products = now (at .before .before .args .products) in
-    let coefficients = now (at .before .before .args .coefficients) in
+    let start = at .before .before .before in
+    let q = start .args .q in
+    let products = now (start .args .products) in
+    let coefficients = now (start .args .coefficients) in
     let zero : at .loop .i ≡ 0 = omega arith in
-    horner-all products coefficients (at .loop .value)
-    (subst (λ i. IsPart products coefficients i (at .loop .value)) zero (at .loop .inv .1))
+    horner-all q products coefficients (at .loop .value)
+    (subst (λ i. IsPart q products coefficients i (at .loop .value)) zero (at .loop .inv .1))
 
 pub value-in-spec : {M : Type 1} → statement M
 value-in-spec =
@@ -68,9 +75,10 @@ value-in-spec =
     shared-slice-read-value
     loop-holds
     sub-i-2
-    cast-value
-    element-copy-out-value
-    shared-slice-read-value-2
+    cast-sum
+    element-copy-out-sum
+    shared-slice-read-sum
+    sum-requires
     loop-less
     loop-again
     returns)

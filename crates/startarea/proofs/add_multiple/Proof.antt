@@ -6,9 +6,6 @@ use borrow.Author.Needs.{needs}
 use Rattle.startarea.proofs.add_multiple.Statement.{statement}
 use Rattle.startarea.proofs.add_multiple.Tie as tie
 
-add-t9 : tie.Need-add-t9
-add-t9 c = search needs
-
 width-of-requires : tie.Need-width-of-requires
 width-of-requires c κs = search needs
 
@@ -28,5 +25,8 @@ returns c =
     let s = c .before .before .before .before .before .before .before in
     rw (c .before .before .before .before .before .width-of .ensures) at (c .before .before .add-product .ensures (symbols (s .args .q) .𝟙) (rw (c .before .before .before .products-of .ensures) (multiplies-one _ (s .pre .0 .known))))
 
+add-t10 : tie.Need-add-t10
+add-t10 c = search needs
+
 pub add-multiple-spec : {M : Type 1} → statement M
-add-multiple-spec = tie.close (tie.spec add-t9 width-of-requires products-of-requires add-product-requires same-length returns)
+add-multiple-spec = tie.close (tie.spec add-t10 width-of-requires products-of-requires add-product-requires same-length returns)

@@ -16,21 +16,21 @@ use Rattle.startarea.proofs.add_part.Statement.{statement}
 use Rattle.startarea.proofs.add_part.Tie as tie
 
 abbrev Inv-loop : tie.InvT-loop
-Inv-loop q n factor products result₀ term₀ i₀ result term i =
+Inv-loop q n constant factor products result₀ term₀ i₀ result term i =
     (i ≤ n) × (length result ≡ 16)
     × ((a : ℕ) (F : ℕ → Sym q) → products ≡ productRow q a → Holds q result₀ n F
     → (term ≡ number q (symbols q ._⊗_ (symbol q factor) (power (symbols q) (symbol q a) (n - i))))
     × Added q n (symbol q a) (symbol q factor) F result i)
 
 abbrev μ-loop : tie.MeasureT-loop
-μ-loop q n factor products result₀ term₀ i₀ result term i = i
+μ-loop q n constant factor products result₀ term₀ i₀ result term i = i
 
 loop-holds : tie.Need-loop-holds Inv-loop μ-loop
 loop-holds c = (
   search needs,
   search needs,
   λ a F row held. (
-    term-first _ (c .pre .0) _ (symbol _ a) _ F _ (sym (number-of-below _ _ (c .pre .0) (c .pre .1 .2))),
+    term-first _ (c .pre .0) _ (symbol _ a) _ F _ (sym (number-of-below _ _ (c .pre .0) (c .pre .1 .3))),
     added-none _ (c .pre .0) _ _ _ F held,
   ),
 )
@@ -38,8 +38,11 @@ loop-holds c = (
 sub-i : tie.Need-sub-i Inv-loop μ-loop
 sub-i c = search needs
 
-array-read-result : tie.Need-array-read-result Inv-loop μ-loop
-array-read-result c = search needs
+array-read-sum : tie.Need-array-read-sum Inv-loop μ-loop
+array-read-sum c = search needs
+
+sum-requires : tie.Need-sum-requires Inv-loop μ-loop
+sum-requires c κs = search needs
 
 array-write-result : tie.Need-array-write-result Inv-loop μ-loop
 array-write-result c = search needs
@@ -55,19 +58,22 @@ loop-less c = search needs
 
 loop-again : tie.Need-loop-again Inv-loop μ-loop
 loop-again c =
-    let at = c .before .loop in
-    let s = c .before .before in (
+    let at = c .before .before .loop in
+    let s = c .before .before .before in (
       search needs,
       simp length-set (at .inv .1),
       λ a F row held.
           let old = at .inv .2 a F row held in (
             term-more (s .args .q) (s .pre .0) (s .args .n) (symbol _ a) (symbol _ (s .args .factor)) F (s .args .t4) (at .i) _ (rw row (multiplies _ _ (s .pre .0))) (omega arith) (at .inv .0) (old .0),
-            added-more _ (s .pre .0) _ _ _ F _ _ _ (omega arith) (at .inv .0) (omega arith) (old .0) (old .1),
+            rw (c .sum .ensures) (added-more _ (s .pre .0) _ _ _ F _ _ _ (omega arith) (at .inv .0) (omega arith) (old .0) (old .1)),
           ),
     )
 
-array-read-result-2 : tie.Need-array-read-result-2 Inv-loop μ-loop
-array-read-result-2 c = search needs
+array-read-sum-2 : tie.Need-array-read-sum-2 Inv-loop μ-loop
+array-read-sum-2 c = search needs
+
+sum-requires-2 : tie.Need-sum-requires-2 Inv-loop μ-loop
+sum-requires-2 c κs = search needs
 
 array-write-result-2 : tie.Need-array-write-result-2 Inv-loop μ-loop
 array-write-result-2 c = search needs
@@ -75,10 +81,10 @@ array-write-result-2 c = search needs
 returns : tie.Need-returns Inv-loop μ-loop
 returns c =
     λ a F row held.
-    let at = c .before .loop in
-    let s = c .before .before in
+    let at = c .before .before .loop in
+    let s = c .before .before .before in
     let none : at .i ≡ 0 = omega arith in
-    added-all _ (s .pre .0) _ _ _ F _ _ (s .pre .1 .0) (omega arith) (sym (number-of-below _ _ (s .pre .0) (s .pre .1 .2))) (rw none at (at .inv .2 a F row held .1))
+    rw (c .sum2 .ensures) (added-all _ (s .pre .0) _ _ _ F _ _ _ (s .pre .1 .0) (omega arith) (sym (number-of-below _ _ (s .pre .0) (s .pre .1 .2))) (rw none at (at .inv .2 a F row held .1)))
 
 pub add-part-spec : {M : Type 1} → statement M
 add-part-spec =
@@ -88,12 +94,14 @@ add-part-spec =
     μ-loop
     loop-holds
     sub-i
-    array-read-result
+    array-read-sum
+    sum-requires
     array-write-result
     cast-term
     array-read-term
     loop-less
     loop-again
-    array-read-result-2
+    array-read-sum-2
+    sum-requires-2
     array-write-result-2
     returns)

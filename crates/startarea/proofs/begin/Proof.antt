@@ -20,8 +20,8 @@ put-firsts-requires c κs =
     let s = c .before .before .before .before .before .before .before .before .before in
     still (area-of (s .pre .0) (s .pre .1 .1)) (omega arith)
 
-add-h-requires : tie.Need-add-h-requires
-add-h-requires c κs =
+subtract-h-requires : tie.Need-subtract-h-requires
+subtract-h-requires c κs =
     let s = c .before .before .before .before .before .before .before .before .before .before .before .before .before in
     (still (area-of (s .pre .0) (s .pre .1 .1)) (omega arith), s .pre .1 .0)
 
@@ -38,7 +38,7 @@ returns c =
     let s = c .before .before .before .before .before .before .before .before .before .before .before .before .before .before .before .before .before .before .before .before in
     let known = s .pre .0 in
     let firsts = c .before .before .before .before .before .before .before .before .before .before .put-firsts .ensures _ (blank-cleared _ known _ _ _ (c .before .before .before .before .before .before .before .before .before .before .before .before .before .before .before .area-size .ensures) (c .before .before .before .before .before .before .before .before .before .before .before .before .before .before .clear .ensures)) in
-    let first = begun-first _ known (s .args .row .now) _ _ (c .before .before .before .before .before .before .add-h .ensures .shows _ _ firsts) in
+    let first = begun-first _ known (s .args .row .now) _ _ (c .before .before .before .before .before .before .subtract-h .ensures .shows _ _ firsts) in
     begun-all _ known (s .args .row .now) _ _ (c .before .before .add-all-multiples .ensures _ _ first)
 
 pub begin-spec : {M : Type 1} → statement M
@@ -48,7 +48,7 @@ begin-spec =
     area-size-requires
     clear-requires
     put-firsts-requires
-    add-h-requires
+    subtract-h-requires
     add-all-multiples-requires
     same-length
     returns)

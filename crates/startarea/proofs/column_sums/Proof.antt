@@ -37,14 +37,14 @@ array-read-products-in c = let b = c .loop-test .taken in omega (arith, known-hi
 products-in-requires-2 : tie.Need-products-in-requires-2 Inv-loop μ-loop
 products-in-requires-2 c κs = (c .before .before .before .before .before .before .pre .0, c .before .before .before .before .before .before .pre .1 .0 .2)
 
-mul-add-part : tie.Need-mul-add-part Inv-loop μ-loop
-mul-add-part c = let s = c .before .before .before .before .before .before .before in omega (arith, point-place _ (s .pre .0) _ _ (s .pre .1 .1) (c .before .loop-test .taken) .1)
+mul-received : tie.Need-mul-received Inv-loop μ-loop
+mul-received c = let s = c .before .before .before .before .before .before .before in omega (arith, point-place _ (s .pre .0) _ _ (s .pre .1 .1) (c .before .loop-test .taken) .1)
 
-add-add-part : tie.Need-add-add-part Inv-loop μ-loop
-add-add-part c = let s = c .before .before .before .before .before .before .before in omega (arith, point-place _ (s .pre .0) _ _ (s .pre .1 .1) (c .before .loop-test .taken) .1)
+add-received : tie.Need-add-received Inv-loop μ-loop
+add-received c = let s = c .before .before .before .before .before .before .before in omega (arith, point-place _ (s .pre .0) _ _ (s .pre .1 .1) (c .before .loop-test .taken) .1)
 
-shared-slice-read-add-part : tie.Need-shared-slice-read-add-part Inv-loop μ-loop
-shared-slice-read-add-part c =
+shared-slice-read-received : tie.Need-shared-slice-read-received Inv-loop μ-loop
+shared-slice-read-received c =
     let s = c .before .before .before .before .before .before .before .before in
     rw (s .pre .1 .0 .0) (point-place _ (s .pre .0) _ _ (s .pre .1 .1) (c .before .before .loop-test .taken) .0)
 
@@ -52,7 +52,8 @@ add-part-requires : tie.Need-add-part-requires Inv-loop μ-loop
 add-part-requires c κs =
     let s = c .before .before .before .before .before .before .before .before in
     let place = rw (← s .pre .1 .0 .0) at (point-place _ (s .pre .0) _ _ (s .pre .1 .1) (c .before .before .loop-test .taken) .0) in
-    (s .pre .0, (omega (arith, known-low _ (s .pre .0)), omega (arith, known-high _ (s .pre .0)), below-all _ _ (s .pre .1 .0 .1) _ place))
+    let symbol = below-all _ _ (s .pre .1 .0 .1) _ place in
+    (s .pre .0, (omega (arith, known-low _ (s .pre .0)), omega (arith, known-high _ (s .pre .0)), symbol, symbol))
 
 add-b : tie.Need-add-b Inv-loop μ-loop
 add-b c = search needs
@@ -87,9 +88,9 @@ column-sums-spec =
     loop-holds
     array-read-products-in
     products-in-requires-2
-    mul-add-part
-    add-add-part
-    shared-slice-read-add-part
+    mul-received
+    add-received
+    shared-slice-read-received
     add-part-requires
     add-b
     loop-less

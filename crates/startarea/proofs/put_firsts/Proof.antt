@@ -19,27 +19,32 @@ slice-write-work c =
 row-place-requires-2 : tie.Need-row-place-requires-2
 row-place-requires-2 c κs = search needs
 
+difference-requires : tie.Need-difference-requires
+difference-requires c κs = search needs
+
 add-work : tie.Need-add-work
-add-work c = rw (c .row-place2 .ensures) (omega (arith, firsts-fit (c .before .before .before .pre), sizes _ (c .before .before .before .pre .known) .square-some))
+add-work c =
+    let s = c .before .before .before .before in
+    rw (c .before .row-place2 .ensures) (omega (arith, firsts-fit (s .pre), sizes _ (s .pre .known) .square-some))
 
 slice-write-work-2 : tie.Need-slice-write-work-2
-slice-write-work-2 c = simp length-set (omega (arith, c .row-place2 .ensures, firsts-fit (c .before .before .before .pre) .1))
+slice-write-work-2 c = simp length-set (omega (arith, c .before .row-place2 .ensures, firsts-fit (c .before .before .before .before .pre) .1))
 
 mul-work : tie.Need-mul-work
 mul-work c = search needs
 
 add-work-2 : tie.Need-add-work-2
-add-work-2 c = rw (c .row-place2 .ensures) (omega (arith, firsts-fit (c .before .before .before .pre)))
+add-work-2 c = rw (c .before .row-place2 .ensures) (omega (arith, firsts-fit (c .before .before .before .before .pre)))
 
 slice-write-work-3 : tie.Need-slice-write-work-3
-slice-write-work-3 c = simp length-set (omega (arith, c .row-place2 .ensures, firsts-fit (c .before .before .before .pre) .2))
+slice-write-work-3 c = simp length-set (omega (arith, c .before .row-place2 .ensures, firsts-fit (c .before .before .before .before .pre) .2))
 
 same-length : tie.Need-same-length
 same-length c = search needs
 
 returns : tie.Need-returns
 returns c =
-    λ rest e. rw (c .before .row-place .ensures, c .row-place2 .ensures) (firsts-stored _ (c .before .before .before .pre .known) _ rest e)
+    λ rest e. rw (c .before .before .row-place .ensures, c .before .row-place2 .ensures, c .difference .ensures) (firsts-stored _ (c .before .before .before .before .pre .known) _ rest e)
 
 pub put-firsts-spec : {M : Type 1} → statement M
 put-firsts-spec =
@@ -48,6 +53,7 @@ put-firsts-spec =
     row-place-requires
     slice-write-work
     row-place-requires-2
+    difference-requires
     add-work
     slice-write-work-2
     mul-work

@@ -14,12 +14,12 @@ use Rattle.substitution.proofs.add_product.Statement.{statement}
 use Rattle.substitution.proofs.add_product.Tie as tie
 
 abbrev Inv-loop : tie.InvT-loop
-Inv-loop work₀ q to from height a b products j₀ work j =
+Inv-loop work₀ q to from height powers products j₀ work j =
     (j ≤ q) × (length work ≡ length work₀)
-    × ((ρ : Sym q) → Multiplies q products ρ → Turns q work₀ work (productAdded q to from height a b ρ j))
+    × ((ρ : Sym q) → Multiplies q products ρ → Turns q work₀ work (productAdded q to from height (powers .x) (powers .y) ρ j))
 
 abbrev μ-loop : tie.MeasureT-loop
-μ-loop work₀ q to from height a b products j₀ work j = q - j
+μ-loop work₀ q to from height powers products j₀ work j = q - j
 
 returns : tie.Need-returns Inv-loop μ-loop
 returns c =

@@ -14,12 +14,12 @@ use Rattle.substitution.proofs.replace_z.Statement.{statement}
 use Rattle.substitution.proofs.replace_z.Tie as tie
 
 abbrev Inv-loop : tie.InvT-loop
-Inv-loop work₀ q heights a b products p₀ p-end work p =
+Inv-loop work₀ q heights powers products p₀ p-end work p =
     (p ≤ 2 * q) × (length work ≡ length work₀)
-    × ((ρ : Sym q) → Multiplies q products ρ → Turns q work₀ work (replacedZ q heights a b ρ p))
+    × ((ρ : Sym q) → Multiplies q products ρ → Turns q work₀ work (replacedZ q heights (powers .x) (powers .y) ρ p))
 
 abbrev μ-loop : tie.MeasureT-loop
-μ-loop work₀ q heights a b products p₀ p-end work p = 2 * q - p
+μ-loop work₀ q heights powers products p₀ p-end work p = 2 * q - p
 
 mul-p-end : tie.Need-mul-p-end Inv-loop μ-loop
 mul-p-end c = search needs

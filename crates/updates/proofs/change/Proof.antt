@@ -11,7 +11,7 @@ use Rattle.workarea.proofs.RowLaws.{multiplies-symbol}
 use Rattle.workarea.proofs.Becoming.{becomes-same}
 use Rattle.updates.proofs.ChangeLaws.{unchanged, changed-raised, changed-reduced}
 use Rattle.workarea.proofs.HeightLaws.{heights-added, heights-exchanged}
-use Rattle.updates.proofs.BelowUpdates.{becomes-added, becomes-exchanged}
+use Rattle.updates.proofs.BelowUpdates.{becomes-reduced, becomes-exchanged}
 use borrow.Author.Needs.{needs}
 use Rattle.updates.proofs.change.Statement.{statement}
 use Rattle.updates.proofs.change.Tie as tie
@@ -93,14 +93,14 @@ cast-shift-2 c =
     let small = s .pre .1 .1 .1 .c in
     minus-cast z small (positive-no z (rw (back z small) at (c .if2 .left)))
 
-mul-add-polynomial : tie.Need-mul-add-polynomial
-mul-add-polynomial c = omega (arith, c .before .before .before .before .before .before .before .before .before .pre .0 .few, c .before .before .before .before .before .before .before .before .before .pre .1 .1 .1 .partner)
+mul-reduce-polynomial : tie.Need-mul-reduce-polynomial
+mul-reduce-polynomial c = omega (arith, c .before .before .before .before .before .before .before .before .before .pre .0 .few, c .before .before .before .before .before .before .before .before .before .pre .1 .1 .1 .partner)
 
-slice-read-add-polynomial : tie.Need-slice-read-add-polynomial
-slice-read-add-polynomial c = omega (arith, c .before .before .before .before .before .before .before .before .before .before .pre .1 .0 .enough, c .before .before .before .before .before .before .before .before .before .before .pre .1 .1 .1 .partner)
+slice-read-reduce-polynomial : tie.Need-slice-read-reduce-polynomial
+slice-read-reduce-polynomial c = omega (arith, c .before .before .before .before .before .before .before .before .before .before .pre .1 .0 .enough, c .before .before .before .before .before .before .before .before .before .before .pre .1 .1 .1 .partner)
 
-add-polynomial-requires : tie.Need-add-polynomial-requires
-add-polynomial-requires c κs =
+reduce-polynomial-requires : tie.Need-reduce-polynomial-requires
+reduce-polynomial-requires c κs =
     let s = c .before .before .before .before .before .before .before .before .before .before in
     let held = s .pre .1 .1 .1 in
     (s .pre .0, (omega (arith, s .pre .1 .1 .0), omega (arith, held .partner), λ e. omega (arith, held .partner)))
@@ -132,8 +132,8 @@ returns-3 c =
           let found = c .before .before .before .before .before .before .before .before .before .before .before .before .ratio-of .ensures ω P ev (n .w) (n .μ) (n .ν) in
           let shift = ap natAbs (minus-value z (held .c) down) ∙ ap negativePart (n .c) in
           let few = rw (n .partner) at (held .partner) in
-          becomes-added _ known _ _ (s .pre .1 .0) S _ below _ _ _ _ (omega (arith, hi)) (omega (arith, few)) _
-          (rw (n .partner, shift) at (c .before .before .before .before .before .before .add-polynomial .ensures (ratio (symbols (s .args .q)) (s .args .q) ω P) (rw (c .before .before .before .before .before .before .before .before .before .before .before .products-in .ensures, found) (multiplies-symbol _ known (ratio (symbols (s .args .q)) (s .args .q) ω P)))))
+          becomes-reduced _ known _ _ (s .pre .1 .0) S _ below _ _ _ _ (omega (arith, hi)) (omega (arith, few)) _
+          (rw (n .partner, shift) at (c .before .before .before .before .before .before .reduce-polynomial .ensures (ratio (symbols (s .args .q)) (s .args .q) ω P) (rw (c .before .before .before .before .before .before .before .before .before .before .before .products-in .ensures, found) (multiplies-symbol _ known (ratio (symbols (s .args .q)) (s .args .q) ω P)))))
           (rw (n .partner, shift) at (c .before .before .add-heights .ensures))
           (changed-reduced _ known S ω _ P _ (λ r m hr hm past. below .above _ r m (omega (arith, few)) hr hm past)
           (λ d. c .before .before .before .before .before .before .before .before .before .before .before .before .before .if1 .left (n .w ∙ d ∙ sym ev)) (ap positivePart (sym (n .c)) ∙ down .none)),
@@ -155,9 +155,9 @@ change-spec =
     returns-2
     sub-shift
     cast-shift-2
-    mul-add-polynomial
-    slice-read-add-polynomial
-    add-polynomial-requires
+    mul-reduce-polynomial
+    slice-read-reduce-polynomial
+    reduce-polynomial-requires
     add-heights-requires
     same-length-3
     same-length-4

@@ -4,20 +4,21 @@ use mathlib.Core.Path.{_≡_, sym}
 use Prim.Native.Nat.{_-_, _≤_}
 use lib.ListN.{length, length-set}
 use native.Mathlib.Omega.{arith}
-use Rattle.workarea.proofs.Bytes.{sum-none, sum-more}
-use Rattle.workarea.specs.Area.{summed}
+use Rattle.workarea.proofs.Bytes.{made-none, made-more}
+use Rattle.workarea.specs.Area.{made}
+use Rattle.symbols.specs.Rule.{sumOf}
 use borrow.Author.Needs.{needs}
 use Rattle.workarea.proofs.rows.add_bytes.Statement.{statement}
 use Rattle.workarea.proofs.rows.add_bytes.Tie as tie
 
 abbrev Inv-loop : tie.InvT-loop
-Inv-loop work₀ to from count products i₀ work i = (i ≤ count) × (work ≡ summed work₀ to from i products) × (length work ≡ length work₀)
+Inv-loop work₀ q to from count products i₀ work i = (i ≤ count) × (work ≡ made (sumOf q) work₀ to from i products) × (length work ≡ length work₀)
 
 abbrev μ-loop : tie.MeasureT-loop
-μ-loop work₀ to from count products i₀ work i = count - i
+μ-loop work₀ q to from count products i₀ work i = count - i
 
 loop-holds : tie.Need-loop-holds Inv-loop μ-loop
-loop-holds c = (search needs, sym (sum-none _ _ _ _), search needs)
+loop-holds c = (search needs, sym (made-none _ _ _ _ _), search needs)
 
 add-factor : tie.Need-add-factor Inv-loop μ-loop
 add-factor c = search needs
@@ -28,17 +29,20 @@ slice-read-factor c = search needs
 cast-factor : tie.Need-cast-factor Inv-loop μ-loop
 cast-factor c = search needs
 
+add-sum : tie.Need-add-sum Inv-loop μ-loop
+add-sum c = search needs
+
+slice-read-sum : tie.Need-slice-read-sum Inv-loop μ-loop
+slice-read-sum c = search needs
+
+array-read-sum : tie.Need-array-read-sum Inv-loop μ-loop
+array-read-sum c = search needs
+
+sum-requires : tie.Need-sum-requires Inv-loop μ-loop
+sum-requires c κs = search needs
+
 add-work : tie.Need-add-work Inv-loop μ-loop
 add-work c = search needs
-
-slice-read-work : tie.Need-slice-read-work Inv-loop μ-loop
-slice-read-work c = search needs
-
-array-read-work : tie.Need-array-read-work Inv-loop μ-loop
-array-read-work c = search needs
-
-add-work-2 : tie.Need-add-work-2 Inv-loop μ-loop
-add-work-2 c = search needs
 
 slice-write-work : tie.Need-slice-write-work Inv-loop μ-loop
 slice-write-work c = search needs
@@ -51,9 +55,9 @@ loop-less c = search needs
 
 loop-again : tie.Need-loop-again Inv-loop μ-loop
 loop-again c =
-    let l = c .before .before .before in (
+    let l = c .before .before .before .before in (
       search needs,
-      sum-more _ _ _ _ _ _ _ (l .before .pre .1) (c .before .before .loop-test .taken) (l .loop .inv .1),
+      rw (c .sum .ensures) (made-more _ _ _ _ _ _ _ _ (l .before .before .pre .1) (c .before .before .before .loop-test .taken) (l .loop .inv .1)),
       simp length-set (l .loop .inv .2),
     )
 
@@ -62,7 +66,7 @@ same-length c = search needs
 
 returns : tie.Need-returns Inv-loop μ-loop
 returns c =
-    let e : c .before .loop .i ≡ c .before .before .args .count = omega arith in
+    let e : c .before .loop .i ≡ c .before .before .before .args .count = omega arith in
     rw e at (c .before .loop .inv .1)
 
 pub add-bytes-spec : {M : Type 1} → statement M
@@ -75,10 +79,11 @@ add-bytes-spec =
     add-factor
     slice-read-factor
     cast-factor
+    add-sum
+    slice-read-sum
+    array-read-sum
+    sum-requires
     add-work
-    slice-read-work
-    array-read-work
-    add-work-2
     slice-write-work
     add-i
     loop-less

@@ -12,14 +12,14 @@ use Rattle.workarea.proofs.rows.exchange_above.Statement.{statement}
 use Rattle.workarea.proofs.rows.exchange_above.Tie as tie
 
 abbrev Inv-loop : tie.InvT-loop
-Inv-loop work₀ f g shift width products i₀ work i =
-    (shift ≤ i) × (i ≤ width) × (work ≡ exchangedAbove work₀ f g shift products i (width - i)) × (length work ≡ length work₀)
+Inv-loop work₀ q f g shift width products i₀ work i =
+    (shift ≤ i) × (i ≤ width) × (work ≡ exchangedAbove q work₀ f g shift products i (width - i)) × (length work ≡ length work₀)
 
 abbrev μ-loop : tie.MeasureT-loop
-μ-loop work₀ f g shift width products i₀ work i = i - shift
+μ-loop work₀ q f g shift width products i₀ work i = i - shift
 
 loop-holds : tie.Need-loop-holds Inv-loop μ-loop
-loop-holds c = (c .pre .1 .1, search needs, rw sub-self (sym (above-none _ _ _ _ _ _)), search needs)
+loop-holds c = (c .before .pre .1 .1, search needs, rw sub-self (sym (above-none _ _ _ _ _ _ _)), search needs)
 
 sub-i : tie.Need-sub-i Inv-loop μ-loop
 sub-i c = search needs
@@ -39,26 +39,29 @@ slice-read-factor c = search needs
 cast-factor : tie.Need-cast-factor Inv-loop μ-loop
 cast-factor c = search needs
 
-sub-work : tie.Need-sub-work Inv-loop μ-loop
-sub-work c = search needs
+sub-difference : tie.Need-sub-difference Inv-loop μ-loop
+sub-difference c = search needs
+
+add-difference : tie.Need-add-difference Inv-loop μ-loop
+add-difference c = search needs
+
+slice-read-difference : tie.Need-slice-read-difference Inv-loop μ-loop
+slice-read-difference c = search needs
+
+array-read-difference : tie.Need-array-read-difference Inv-loop μ-loop
+array-read-difference c = search needs
+
+difference-requires : tie.Need-difference-requires Inv-loop μ-loop
+difference-requires c κs = search needs
 
 add-work : tie.Need-add-work Inv-loop μ-loop
 add-work c = search needs
-
-slice-read-work : tie.Need-slice-read-work Inv-loop μ-loop
-slice-read-work c = search needs
-
-array-read-work : tie.Need-array-read-work Inv-loop μ-loop
-array-read-work c = search needs
 
 add-work-2 : tie.Need-add-work-2 Inv-loop μ-loop
 add-work-2 c = search needs
 
 slice-write-work : tie.Need-slice-write-work Inv-loop μ-loop
 slice-write-work c = search needs
-
-add-work-3 : tie.Need-add-work-3 Inv-loop μ-loop
-add-work-3 c = search needs
 
 slice-write-work-2 : tie.Need-slice-write-work-2 Inv-loop μ-loop
 slice-write-work-2 c = simp length-set (omega arith)
@@ -68,11 +71,11 @@ loop-less c = search needs
 
 loop-again : tie.Need-loop-again Inv-loop μ-loop
 loop-again c =
-    let l = c .before .before .before .before in
+    let l = c .before .before .before .before .before in
     let i : l .loop .i ≡ l .loop .i - 1 + 1 = omega arith in (
       search needs,
       search needs,
-      above-more _ _ _ _ _ _ _ _ (l .before .pre .1 .0) (omega arith) (rw i at (l .loop .inv .2)),
+      rw (c .difference .ensures) (above-more _ _ _ _ _ _ _ _ _ (l .before .before .pre .1 .0) (omega arith) (rw i at (l .loop .inv .2))),
       simp length-set (l .loop .inv .3),
     )
 
@@ -81,7 +84,7 @@ same-length c = search needs
 
 returns : tie.Need-returns Inv-loop μ-loop
 returns c =
-    let i : c .before .loop .i ≡ c .before .before .args .shift = omega arith in
+    let i : c .before .loop .i ≡ c .before .before .before .args .shift = omega arith in
     rw i at (c .before .loop .inv .2)
 
 pub exchange-above-spec : {M : Type 1} → statement M
@@ -97,13 +100,14 @@ exchange-above-spec =
     add-factor
     slice-read-factor
     cast-factor
-    sub-work
+    sub-difference
+    add-difference
+    slice-read-difference
+    array-read-difference
+    difference-requires
     add-work
-    slice-read-work
-    array-read-work
-    add-work-2
     slice-write-work
-    add-work-3
+    add-work-2
     slice-write-work-2
     loop-less
     loop-again

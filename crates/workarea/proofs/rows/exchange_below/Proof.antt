@@ -11,13 +11,13 @@ use Rattle.workarea.proofs.rows.exchange_below.Statement.{statement}
 use Rattle.workarea.proofs.rows.exchange_below.Tie as tie
 
 abbrev Inv-loop : tie.InvT-loop
-Inv-loop work₀ f g count products i₀ work i = (i ≤ count) × (work ≡ exchangedBelow work₀ f g products i) × (length work ≡ length work₀)
+Inv-loop work₀ q f g count products i₀ work i = (i ≤ count) × (work ≡ exchangedBelow q work₀ f g products i) × (length work ≡ length work₀)
 
 abbrev μ-loop : tie.MeasureT-loop
-μ-loop work₀ f g count products i₀ work i = count - i
+μ-loop work₀ q f g count products i₀ work i = count - i
 
 loop-holds : tie.Need-loop-holds Inv-loop μ-loop
-loop-holds c = (search needs, sym (below-none _ _ _ _), search needs)
+loop-holds c = (search needs, sym (below-none _ _ _ _ _), search needs)
 
 add-old : tie.Need-add-old Inv-loop μ-loop
 add-old c = search needs
@@ -34,8 +34,11 @@ slice-read-factor c = search needs
 cast-factor : tie.Need-cast-factor Inv-loop μ-loop
 cast-factor c = search needs
 
-array-read-work : tie.Need-array-read-work Inv-loop μ-loop
-array-read-work c = search needs
+array-read-difference : tie.Need-array-read-difference Inv-loop μ-loop
+array-read-difference c = search needs
+
+difference-requires : tie.Need-difference-requires Inv-loop μ-loop
+difference-requires c κs = search needs
 
 add-work : tie.Need-add-work Inv-loop μ-loop
 add-work c = search needs
@@ -57,9 +60,9 @@ loop-less c = search needs
 
 loop-again : tie.Need-loop-again Inv-loop μ-loop
 loop-again c =
-    let l = c .before .before .before in (
+    let l = c .before .before .before .before in (
       search needs,
-      below-more _ _ _ _ _ _ _ (l .before .pre .1) (c .before .before .loop-test .taken) (l .loop .inv .1),
+      rw (c .difference .ensures) (below-more _ _ _ _ _ _ _ _ (l .before .before .pre .1) (c .before .before .before .loop-test .taken) (l .loop .inv .1)),
       simp length-set (l .loop .inv .2),
     )
 
@@ -68,7 +71,7 @@ same-length c = search needs
 
 returns : tie.Need-returns Inv-loop μ-loop
 returns c =
-    let i : c .before .loop .i ≡ c .before .before .args .count = omega arith in
+    let i : c .before .loop .i ≡ c .before .before .before .args .count = omega arith in
     rw i at (c .before .loop .inv .1)
 
 pub exchange-below-spec : {M : Type 1} → statement M
@@ -83,7 +86,8 @@ exchange-below-spec =
     add-factor
     slice-read-factor
     cast-factor
-    array-read-work
+    array-read-difference
+    difference-requires
     add-work
     slice-write-work
     add-work-2

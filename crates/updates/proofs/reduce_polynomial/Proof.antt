@@ -1,4 +1,4 @@
--- Each turn adds one row more.
+-- Each turn subtracts one row more.
 -- Assumes nothing.
 use mathlib.Core.Path.{_≡_}
 use Prim.Native.Nat.{_-_, _*_, _≤_}
@@ -6,17 +6,17 @@ use native.Mathlib.Omega.{arith}
 use lib.ListN.{length}
 use Rattle.symbols.specs.Rule.{Sym}
 use Rattle.workarea.specs.Area.{Turns, Multiplies}
-use Rattle.updates.specs.Updates.{polynomialAdded}
+use Rattle.updates.specs.Updates.{polynomialReduced}
 use Rattle.workarea.proofs.Cells.{still, turns-none, turns-same, turns-both}
-use Rattle.updates.proofs.UpdateCells.{added-none, added-more}
+use Rattle.updates.proofs.UpdateCells.{reduced-none, reduced-more}
 use borrow.Author.Needs.{needs}
-use Rattle.updates.proofs.add_polynomial.Statement.{statement}
-use Rattle.updates.proofs.add_polynomial.Tie as tie
+use Rattle.updates.proofs.reduce_polynomial.Statement.{statement}
+use Rattle.updates.proofs.reduce_polynomial.Tie as tie
 
 abbrev Inv-loop : tie.InvT-loop
 Inv-loop work₀ q f g height shift products r₀ r-end work r =
     (r ≤ 2 * q) × (length work ≡ length work₀)
-    × ((ρ : Sym q) → Multiplies q products ρ → Turns q work₀ work (polynomialAdded q f g height shift ρ r))
+    × ((ρ : Sym q) → Multiplies q products ρ → Turns q work₀ work (polynomialReduced q f g height shift ρ r))
 
 abbrev μ-loop : tie.MeasureT-loop
 μ-loop work₀ q f g height shift products r₀ r-end work r = 2 * q - r
@@ -26,15 +26,15 @@ mul-r-end c = search needs
 
 loop-holds : tie.Need-loop-holds Inv-loop μ-loop
 loop-holds c =
-    (search needs, search needs, λ ρ m. turns-same _ (λ S p r i hp hr hi. added-none _ (c .before .pre .0 .known) _ _ _ (c .before .pre .1 .2) ρ S _ p r i) (turns-none _))
+    (search needs, search needs, λ ρ m. turns-same _ (λ S p r i hp hr hi. reduced-none _ (c .before .pre .0 .known) _ _ _ (c .before .pre .1 .2) ρ S _ p r i) (turns-none _))
 
 row-height-requires : tie.Need-row-height-requires Inv-loop μ-loop
 row-height-requires c κs = search needs
 
-add-row-requires : tie.Need-add-row-requires Inv-loop μ-loop
-add-row-requires c κs =
+subtract-row-requires : tie.Need-subtract-row-requires Inv-loop μ-loop
+subtract-row-requires c κs =
     let s = c .before .before .before .before .before in
-    (still (s .pre .0) (c .before .before .before .loop .inv .1), (search needs, search needs, search needs, search needs, λ e d. s .pre .1 .2 e))
+    (still (s .pre .0) (c .before .before .before .loop .inv .1), record { to-polynomial = search needs; to-row = search needs; from-polynomial = search needs; from-row = search needs; differ = λ e d. s .pre .1 .2 e })
 
 add-r : tie.Need-add-r Inv-loop μ-loop
 add-r c = search needs
@@ -47,8 +47,8 @@ loop-again c =
     let s = c .before .before .before .before .before .before .before .before in (
       search needs,
       search needs,
-      λ ρ m. turns-same _ (λ S p r i hp hr hi. added-more _ (s .pre .0 .known) _ _ _ (s .pre .1 .2) ρ S _ _ p r i)
-          (turns-both _ (c .before .before .before .before .before .before .loop .inv .2 ρ m) (rw (c .before .before .before .before .row-height .ensures) at (c .before .before .add-row .ensures ρ m))),
+      λ ρ m. turns-same _ (λ S p r i hp hr hi. reduced-more _ (s .pre .0 .known) _ _ _ (s .pre .1 .2) ρ S _ _ p r i)
+          (turns-both _ (c .before .before .before .before .before .before .loop .inv .2 ρ m) (rw (c .before .before .before .before .row-height .ensures) at (c .before .before .subtract-row .ensures ρ m))),
     )
 
 same-length : tie.Need-same-length Inv-loop μ-loop
@@ -59,8 +59,8 @@ returns c =
     let r : c .before .loop .r ≡ 2 * c .before .before .before .args .q = omega arith in
     rw r at (c .before .loop .inv .2)
 
-pub add-polynomial-spec : {M : Type 1} → statement M
-add-polynomial-spec =
+pub reduce-polynomial-spec : {M : Type 1} → statement M
+reduce-polynomial-spec =
     tie.close
     (tie.spec
     Inv-loop
@@ -68,7 +68,7 @@ add-polynomial-spec =
     mul-r-end
     loop-holds
     row-height-requires
-    add-row-requires
+    subtract-row-requires
     add-r
     loop-less
     loop-again
