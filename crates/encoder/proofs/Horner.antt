@@ -11,11 +11,11 @@ use Rattle.algebra.specs.Functions.{valueIn}
 use Rattle.algebra.proofs.Ring.{add-comm, add-zero as plus-zero, mul-zero}
 use Rattle.algebra.proofs.Polynomials.{valueIn-zero, valueIn-head, valueIn-cong}
 use Rattle.symbols.specs.Rule.{Known, Sym, sumOf, symbols, number, symbol}
-use Rattle.symbols.specs.Tables.{productRow}
+use Rattle.symbols.specs.Tables.{productRow, Holds}
 use Rattle.symbols.proofs.FieldLaws.{laws-of}
 use Rattle.symbols.proofs.Bytes.{number-of-sum}
 use Rattle.symbols.proofs.TableRules.{row-number}
-use Rattle.encoder.specs.Stages.{Holds, IsValue}
+use Rattle.encoder.specs.Stages.{IsValue}
 
 -- the value of n coefficients from the one of x^i on
 unfoldable pub part : (𝓢 : Symbols) → ℕ → (ℕ → 𝓢 .K) → 𝓢 .K → ℕ → ℕ → 𝓢 .K
@@ -53,7 +53,7 @@ module _ {𝓢 : Symbols} {q : ℕ} (𝓛 : Laws 𝓢 q) where
 -- what a loop has after it passed the coefficients from number i on
 abbrev pub IsPart : ℕ → List ℕ → List ℕ → ℕ → ℕ → Type 0
 IsPart q products coefficients i value =
-    (a : ℕ) (α : ℕ → Sym q) → Known q → products ≡ productRow q a → Holds q α (length coefficients) coefficients
+    (a : ℕ) (α : ℕ → Sym q) → Known q → products ≡ productRow q a → Holds q coefficients (length coefficients) α
     → value ≡ number q (part (symbols q) q α (symbol q a) i (length coefficients - i))
 
 -- the last coefficient
@@ -62,7 +62,7 @@ pub horner-last : (q : ℕ) (products coefficients : List ℕ) → 0 < length co
 horner-last q products coefficients h a α k e held =
     let i = length coefficients - 1 in
     let one : length coefficients - i ≡ 1 = omega arith in
-    rw one (held i (omega arith) ∙ ap (number q) (part-last (laws-of q k) α (symbol q a) i))
+    rw one (held .at i (omega arith) ∙ ap (number q) (part-last (laws-of q k) α (symbol q a) i))
 
 -- one more
 pub horner-next : (q : ℕ) (products coefficients : List ℕ) (i value : ℕ) → 0 < i → i < length coefficients
@@ -77,7 +77,7 @@ horner-next q products coefficients i value h l known a α k e held =
       e,
       known a α k e held,
       row-number q k a tail,
-      held (i - 1) (omega arith),
+      held .at (i - 1) (omega arith),
       number-of-sum q k
           (symbols q ._⊗_ (symbol q a) tail) (α (i - 1)),
     )

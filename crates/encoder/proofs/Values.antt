@@ -9,14 +9,14 @@ use lib.Seq.{getD-take, getD-drop}
 use Rattle.algebra.specs.Functions.{Fn, valueIn}
 use Rattle.lists.proofs.Numbers.{row-fits}
 use Rattle.symbols.specs.Rule.{Known, Sym, symbols, number, symbol}
-use Rattle.symbols.specs.Tables.{productRow}
+use Rattle.symbols.specs.Tables.{productRow, Holds}
 use Rattle.symbols.proofs.FieldLaws.{laws-of}
 use Rattle.symbols.proofs.Bytes.{known-high}
 use Rattle.curve.specs.Points.{pointAt}
 use Rattle.curve.specs.Codes.{pointCount}
 use Rattle.curve.specs.Ordinates.{ordinatesAbove}
 use Rattle.curve.proofs.OrdinateSets.{ordinate-at}
-use Rattle.encoder.specs.Stages.{Holds, IsValue, HoldsFunction, columnNumber, fibreNumber}
+use Rattle.encoder.specs.Stages.{IsValue, HoldsFunction, columnNumber, fibreNumber}
 
 -- the points above x number a are among all points
 pub fibre-within : (q a : ℕ) → a < q * q → a * q + q ≤ pointCount q
@@ -25,10 +25,10 @@ fibre-within q a h = row-fits q h
 
 module _ (q : ℕ) (k : Known q) (products : List ℕ) (value : ℕ) where
   -- what Horner's rule makes of n bytes that are symbols' numbers
-  value-of : (a n : ℕ) (α : ℕ → Sym q) (bytes : List ℕ) → length bytes ≡ n → products ≡ productRow q a → Holds q α n bytes
+  value-of : (a n : ℕ) (α : ℕ → Sym q) (bytes : List ℕ) → length bytes ≡ n → products ≡ productRow q a → Holds q bytes n α
       → IsValue q products bytes value → value ≡ number q (valueIn (symbols q) q n α (symbol q a))
   value-of a n α bytes long e held is =
-      is a α k e (λ i h. held i (rw long at h)) ∙ ap (λ m. number q (valueIn (symbols q) q m α (symbol q a))) long
+      is a α k e (record { at = λ i h. held .at i (rw long at h) }) ∙ ap (λ m. number q (valueIn (symbols q) q m α (symbol q a))) long
 
   -- the places of y^j give the value at x of the polynomial that stands there
   pub column-value : (f : Fn (symbols q) q) (places : List ℕ) (x j n : ℕ) → j < q → n ≤ 16 → length places ≡ 64
@@ -37,10 +37,10 @@ module _ (q : ℕ) (k : Known q) (products : List ℕ) (value : ℕ) where
   unfolding columnNumber
   column-value f places x j n hj hn long held e is =
       value-of x n (f j) (take n (drop (j * 16) places)) (rw (length-take, length-drop) (omega (arith, known-high q k))) e
-      (λ i h. getD-take n (drop (j * 16) places) i 0 h ∙ getD-drop (j * 16) places i 0 ∙ held j i hj (omega arith)) is
+      (record { at = λ i h. getD-take n (drop (j * 16) places) i 0 h ∙ getD-drop (j * 16) places i 0 ∙ held j i hj (omega arith) }) is
 
   -- the values at x give the value at y number b above x
-  pub fibre-value : (v : ℕ → Sym q) (values : List ℕ) (x b : ℕ) → x < q * q → b < q → length values ≡ 4 → Holds q v q values
+  pub fibre-value : (v : ℕ → Sym q) (values : List ℕ) (x b : ℕ) → x < q * q → b < q → length values ≡ 4 → Holds q values q v
       → products ≡ productRow q (getD (ordinatesAbove q x) b 0) → IsValue q products (take q values) value
       → value ≡ fibreNumber q v x b
   unfolding fibreNumber
@@ -48,5 +48,5 @@ module _ (q : ℕ) (k : Known q) (products : List ℕ) (value : ℕ) where
       let y : symbol q (getD (ordinatesAbove q x) b 0) ≡ pointAt (symbols q) q (x * q + b) .y
       = ap (symbol q) (ordinate-at q k x b hx hb) ∙ laws-of q k .symbol-number (pointAt (symbols q) q (x * q + b) .y) in
       value-of (getD (ordinatesAbove q x) b 0) q v (take q values) (rw length-take (omega (arith, known-high q k))) e
-      (λ i h. getD-take q values i 0 h ∙ held i h) is
+      (record { at = λ i h. getD-take q values i 0 h ∙ held .at i h }) is
       ∙ ap (λ s. number q (valueIn (symbols q) q q v s)) y

@@ -13,18 +13,22 @@ use Rattle.symbols.specs.Rule.{Known, symbols, symbol}
 use Rattle.symbols.proofs.Bytes.{known-positive, known-high, square-small}
 use Rattle.curve.specs.Codes.{pointCount}
 use Rattle.encoder.specs.Encoding.{rowNumbers}
-use Rattle.encoder.specs.Stages.{Holds, columnNumber, fibreNumber}
+use Rattle.encoder.specs.Stages.{columnNumber, fibreNumber}
+use Rattle.symbols.specs.Tables.{Holds}
 use Rattle.encoder.proofs.RowNumbers.{rowNumber, function, stages, row-numbers}
 
 -- the values of a column are the numbers of symbols
 pub column-holds : (q : ℕ) → Known q → (f : Fn (symbols q) q) (width x : ℕ) (values : List ℕ)
     → values ≡ put (replicate 4 0) 0 q (columnNumber q f width x)
-    → Holds q (λ j. valueIn (symbols q) q width (f j) (symbol q x)) q values
+    → Holds q values q (λ j. valueIn (symbols q) q width (f j) (symbol q x))
 unfolding columnNumber
-column-holds q k f width x values e i h =
-    ap (λ l. getD l i 0) e
-    ∙ ap (λ n. getD (put (replicate 4 0) 0 q (columnNumber q f width x)) n 0) (sym (zero-add i))
-    ∙ put-in (replicate 4 0) 0 q (columnNumber q f width x) i 0 h (omega (arith, known-high q k))
+column-holds q k f width x values e =
+    record {
+      at = λ i h.
+          ap (λ l. getD l i 0) e
+          ∙ ap (λ n. getD (put (replicate 4 0) 0 q (columnNumber q f width x)) n 0) (sym (zero-add i))
+          ∙ put-in (replicate 4 0) 0 q (columnNumber q f width x) i 0 h (omega (arith, known-high q k));
+    }
 
 -- no power of x fills more than sixteen places
 pub width-small : (q u : ℕ) → Known q → u < pointCount q → u / q + 1 ≤ 16

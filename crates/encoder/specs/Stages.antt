@@ -11,18 +11,14 @@ use Rattle.algebra.specs.Weights.{weight}
 use Rattle.algebra.specs.Functions.{Fn, valueIn}
 use Rattle.lists.specs.Tables.{put}
 use Rattle.symbols.specs.Rule.{Known, Sym, symbols, number, symbol}
-use Rattle.symbols.specs.Tables.{productRow}
+use Rattle.symbols.specs.Tables.{productRow, Holds}
 use Rattle.curve.specs.Points.{pointAt}
 use Rattle.curve.specs.Ranks.{rank}
-
--- the first n bytes are the numbers of α 0, α 1, ..
-abbrev pub Holds : (q : ℕ) → (ℕ → Sym q) → ℕ → List ℕ → Type 0
-Holds q α n bytes = (i : ℕ) → i < n → getD bytes i 0 ≡ number q (α i)
 
 -- with the products of a, whatever they are, the value at a of the polynomial with these coefficients
 abbrev pub IsValue : ℕ → List ℕ → List ℕ → ℕ → Type 0
 IsValue q products coefficients value =
-    (a : ℕ) (α : ℕ → Sym q) → Known q → products ≡ productRow q a → Holds q α (length coefficients) coefficients
+    (a : ℕ) (α : ℕ → Sym q) → Known q → products ≡ productRow q a → Holds q coefficients (length coefficients) α
     → value ≡ number q (valueIn (symbols q) q (length coefficients) α (symbol q a))
 
 -- the message's byte for the weight of x^i y^j, if that is below s
@@ -52,4 +48,4 @@ fibreNumber q v a b = number q (valueIn (symbols q) q q v (pointAt (symbols q) q
 
 -- the places of x number a hold its values
 abbrev pub IsFibre : ℕ → ℕ → List ℕ → List ℕ → List ℕ → Type 0
-IsFibre q a values old new = (v : ℕ → Sym q) → Holds q v q values → new ≡ put old (a * q) q (fibreNumber q v a)
+IsFibre q a values old new = (v : ℕ → Sym q) → Holds q values q v → new ≡ put old (a * q) q (fibreNumber q v a)

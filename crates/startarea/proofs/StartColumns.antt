@@ -17,7 +17,7 @@ use Rattle.algebra.proofs.Sums.{sum-suc, sum-zero, sum-cong, sum-none, sum-mul,
 use Rattle.lists.specs.Tables.{put}
 use Rattle.lists.proofs.Numbers.{lt-or-ge, row-fits}
 use Rattle.symbols.specs.Rule.{differenceOf, Known, symbols, number, symbol}
-use Rattle.symbols.specs.Tables.{productRow}
+use Rattle.symbols.specs.Tables.{productRow, Holds}
 use Rattle.symbols.proofs.FieldLaws.{laws-of}
 use Rattle.symbols.proofs.Bytes.{number-of-difference, cube-small}
 use Rattle.curve.specs.Points.{pointAt}
@@ -28,7 +28,7 @@ use Rattle.curve.proofs.OrdinateSets.{ordinate-at}
 use Rattle.published.specs.Start.{width, term, h}
 use Rattle.published.proofs.StartLeads.{h-within, h-past}
 use Rattle.workarea.specs.Area.{rowPlace, Cells, shown, Turns, withRows}
-use Rattle.startarea.specs.StartArea.{minusValue, minusValues, Holds, plusPart, columnSum, columnOf, columnsOf}
+use Rattle.startarea.specs.StartArea.{minusValue, minusValues, plusPart, columnSum, columnOf, columnsOf}
 use Rattle.workarea.proofs.Cells.{shown-read}
 use Rattle.workarea.proofs.Sizes.{sizes}
 use Rattle.workarea.proofs.RowLaws.{multiplies}

@@ -17,7 +17,8 @@ use Rattle.symbols.specs.Rule.{Known, Sym, sumOf, symbols, number}
 use Rattle.symbols.proofs.FieldLaws.{laws-of}
 use Rattle.symbols.proofs.Bytes.{number-of-sum}
 use Rattle.workarea.specs.Area.{Multiplies}
-use Rattle.startarea.specs.StartArea.{Holds, plusPart}
+use Rattle.symbols.specs.Tables.{Holds}
+use Rattle.startarea.specs.StartArea.{plusPart}
 
 module _ (q n : ℕ) (a ρ : Sym q) (F : ℕ → Sym q) where
   infixl 65 _⊕_

@@ -2,16 +2,15 @@
 -- with x-degree below q² and y-degree below q that takes the row's symbols at the points", "g_i = y^i(x^(q²) - x)" and
 -- "f_i = y^i(z - h)".
 -- Assumes nothing.
-use mathlib.Core.Path.{_≡_}
 use mathlib.Core.Bool.{true, false}
 use mathlib.Core.List.{List}
-use Prim.Native.Nat.{ℕ, _+_, _-_, _*_, _/_, _%_, _<_}
+use Prim.Native.Nat.{ℕ, _+_, _-_, _*_, _/_, _%_}
 use lib.Dec.{eqb, ltb}
 use lib.ListN.{getD}
 use Rattle.algebra.specs.Symbols.{Symbols, power, sum}
 use Rattle.algebra.specs.Interpolation.{unit, xPart, yPart}
 use Rattle.lists.specs.Tables.{put}
-use Rattle.symbols.specs.Rule.{differenceOf, symbols, number}
+use Rattle.symbols.specs.Rule.{differenceOf, symbols}
 use Rattle.curve.specs.Points.{pointAt}
 use Rattle.published.specs.Start.{width, vanishing, one, startPart}
 use Rattle.workarea.specs.Area.{Cells, withRows}
@@ -29,10 +28,6 @@ module _ (q : ℕ) where
   infixl 65 _⊕_ _⊖_
   infixl 70 _⊗_
   open Symbols (symbols q) using (K, 𝟘, 𝟙, _⊕_, _⊖_, _⊗_, symbol)
-
-  -- n bytes that are the numbers of F
-  pub record Holds (l : List ℕ) (n : ℕ) (F : ℕ → K) : Type 0 where
-    pub at : (i : ℕ) → i < n → getD l i 0 ≡ number q (F i)
 
   -- F plus σ and ρ·Σ x^i·a^(n-1-i): the two parts of the function that is one at a point have this form, the one in x with n = q²
   -- and ρ = -σ, the one in y with n = q and ρ = σ

@@ -12,7 +12,8 @@ ghost use Rattle.curve.specs.Codes.{pointCount};
 ghost use Rattle.published.specs.Start.{start};
 ghost use Rattle.published.specs.Picture.{areaSize, picture};
 ghost use Rattle.workarea.specs.Area.{Area, Turns, shown};
-ghost use Rattle.startarea.specs.StartArea.{minusValues, Holds, plusPart, columnSum, columnOf, columnsOf, rowsMinus, blank, firsts, begun, multipleAdded};
+ghost use Rattle.symbols.specs.Tables.{Holds};
+ghost use Rattle.startarea.specs.StartArea.{minusValues, plusPart, columnSum, columnOf, columnsOf, rowsMinus, blank, firsts, begun, multipleAdded};
 
 // Puts x^(q²) - x in the lower part of g_0 and 1 in the upper part of f_0.
 fn put_firsts(work: &mut [u8], q: usize)

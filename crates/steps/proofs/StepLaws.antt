@@ -14,7 +14,7 @@ use Rattle.published.specs.Steps.{substituted, updated, pairings, step, after}
 use Rattle.published.specs.Meaning.{voteOn}
 use Rattle.published.proofs.VotedWeights.{voted-no-gap}
 use Rattle.workarea.specs.Area.{cellsOf, Starts, Narrow, Becomes}
-use Rattle.workarea.specs.Heights.{Below, BecomesBelow}
+use Rattle.workarea.specs.Heights.{WithinHeights, BecomesBelow}
 use Rattle.stepvotes.specs.Pairs.{NumbersOf, pairAt}
 use Rattle.steps.specs.Stop.{stateAfter, pictureAfter}
 use Rattle.steps.specs.Step.{voteAfter, Stepped, BelowAfter}
@@ -51,14 +51,14 @@ module _ (q u : ℕ) (row : List ℕ) (t : ℕ) where
   -- the parts of the step, each by its promise, make the step
   pub assembled : Known q → (rest : List ℕ) (s : ℕ) (voted : Bool) (pairs : List Pair) (v : ℕ) (before between after heights heights′ : List ℕ)
       → s ≡ weight → voted ≡ isVoted q u s → before ≡ pictureAfter q u row t ++ rest → BelowAfter q u row t heights
-      → ((S : Polynomials (symbols q) q) (u : ℕ) → Narrow q (cellsOf q S) → Below q heights (cellsOf q S) → Starts q before (cellsOf q S)
+      → ((S : Polynomials (symbols q) q) (u : ℕ) → Narrow q (cellsOf q S) → WithinHeights q heights (cellsOf q S) → Starts q before (cellsOf q S)
       → isVoted q u s ≡ voted → (i : ℕ) → i < q → NumbersOf q (pairAt pairs i) (pairing (symbols q) q u s S i))
       → ((P : ℕ → Pairing (symbols q) q) (u s : ℕ) → ((i : ℕ) → i < q → NumbersOf q (pairAt pairs i) (P i)) → isVoted q u s ≡ voted
       → v ≡ number q (vote (symbols q) q u s (tab q P)))
-      → ((S : Polynomials (symbols q) q) (ω : Sym q) → v ≡ number q ω → Below q heights (cellsOf q S)
+      → ((S : Polynomials (symbols q) q) (ω : Sym q) → v ≡ number q ω → WithinHeights q heights (cellsOf q S)
       → Becomes q before between S (substituted (symbols q) q s ω S))
       → ((S : Polynomials (symbols q) q) (ω : Sym q) (P : ℕ → Pairing (symbols q) q) → v ≡ number q ω
-      → ((i : ℕ) → i < q → NumbersOf q (pairAt pairs i) (P i)) → Below q heights (cellsOf q S)
+      → ((i : ℕ) → i < q → NumbersOf q (pairAt pairs i) (P i)) → WithinHeights q heights (cellsOf q S)
       → BecomesBelow q between after S (updated (symbols q) q ω (tab q P) S q) heights′)
       → Stepped q u row t rest v after × BelowAfter q u row (t + 1) heights′
   unfolding pictureAfter voteAfter voteOn pairings

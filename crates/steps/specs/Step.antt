@@ -7,7 +7,7 @@ use Rattle.symbols.specs.Rule.{symbols, number}
 use Rattle.published.specs.Start.{startWeight}
 use Rattle.published.specs.Meaning.{voteOn}
 use Rattle.workarea.specs.Area.{cellsOf}
-use Rattle.workarea.specs.Heights.{Below}
+use Rattle.workarea.specs.Heights.{WithinHeights}
 use Rattle.steps.specs.Stop.{stateAfter, pictureAfter}
 
 -- "vote w" of the step after t steps, as a number; that step is at the start weight less t
@@ -21,4 +21,4 @@ pub record Stepped (q u : ℕ) (row : List ℕ) (t : ℕ) (rest : List ℕ) (vot
 
 -- these heights bound the upper parts after t steps on a row
 abbrev pub BelowAfter : ℕ → ℕ → List ℕ → ℕ → List ℕ → Type 0
-BelowAfter q u row t heights = Below q heights (cellsOf q (stateAfter q u row t .polys))
+BelowAfter q u row t heights = WithinHeights q heights (cellsOf q (stateAfter q u row t .polys))

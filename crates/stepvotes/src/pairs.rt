@@ -10,7 +10,7 @@ ghost use Rattle.symbols.specs.Tables.{HasProducts};
 ghost use Rattle.published.specs.Start.{Polynomials};
 ghost use Rattle.published.specs.Pairing.{kOf, isNegative, isVoted, looked, inVotedStep, inUnvotedStep, pairing};
 ghost use Rattle.workarea.specs.Area.{Area, cellsOf, Starts, Narrow};
-ghost use Rattle.workarea.specs.Heights.{Heights, Below};
+ghost use Rattle.workarea.specs.Heights.{Heights, WithinHeights};
 ghost use Rattle.stepvotes.specs.Pairs.{Held, NamedAs, NumbersOf, pairAt};
 
 // The numbers of pair i: `partner` is i'.
@@ -108,7 +108,7 @@ fn pair_of(
     requires { ⌜ Heights q (now heights) ⌝ }
     requires { ⌜ (i < q) × (s ≤ 100) × HasProducts q (now table) ⌝ }
     ensures { λ pair. ⌜ Held q pair ⌝ }
-    ensures { λ pair. ⌜ ((S : Polynomials (symbols q) q) (u : ℕ) → Narrow q (cellsOf q S) → Below q (now (heights .entry)) (cellsOf q S)
+    ensures { λ pair. ⌜ ((S : Polynomials (symbols q) q) (u : ℕ) → Narrow q (cellsOf q S) → WithinHeights q (now (heights .entry)) (cellsOf q S)
         → Starts q (now (work .entry)) (cellsOf q S) → isVoted q u s ≡ voted → NumbersOf q pair (pairing (symbols q) q u s S i)) ⌝ }
 {
     let f = reading::leading_below(work, q, q + i, i, heights[q + i]);
@@ -144,7 +144,7 @@ pub fn pairs_of(
     requires { ⌜ Heights q (now heights) ⌝ }
     requires { ⌜ (s ≤ 100) × HasProducts q (now table) ⌝ }
     ensures { λ pairs. ⌜ ((i : ℕ) → i < q → Held q (pairAt pairs i)) ⌝ }
-    ensures { λ pairs. ⌜ ((S : Polynomials (symbols q) q) (u : ℕ) → Narrow q (cellsOf q S) → Below q (now (heights .entry)) (cellsOf q S)
+    ensures { λ pairs. ⌜ ((S : Polynomials (symbols q) q) (u : ℕ) → Narrow q (cellsOf q S) → WithinHeights q (now (heights .entry)) (cellsOf q S)
         → Starts q (now (work .entry)) (cellsOf q S) → isVoted q u s ≡ voted
         → (i : ℕ) → i < q → NumbersOf q (pairAt pairs i) (pairing (symbols q) q u s S i)) ⌝ }
 {

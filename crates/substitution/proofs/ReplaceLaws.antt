@@ -22,7 +22,7 @@ use Rattle.published.specs.Start.{Polynomials, coefficient, polynomials, width,
 use Rattle.published.specs.Steps.{substitutedPart, substituted}
 use Rattle.workarea.specs.Area.{cellsOf, Cells}
 use Rattle.substitution.specs.Products.{lowFunctionOf, plusProduct, productAdded, upperOf, lowerOf, replacedZ}
-use Rattle.workarea.specs.Heights.{Below}
+use Rattle.workarea.specs.Heights.{WithinHeights}
 use Rattle.workarea.proofs.Becoming.{below-same}
 use Rattle.workarea.proofs.FirstSymbols.{first-all}
 use Rattle.workarea.proofs.Cells.{rows-in, rows-out}
@@ -55,7 +55,7 @@ module _ (q : ℕ) (known : Known q) (S : Polynomials (symbols q) q) where
   infixl 70 _⊗_
   open Symbols (symbols q) using (K, _⊕_, _⊗_)
 
-  module _ (heights : List ℕ) (below : Below q heights (cellsOf q S)) (s : ℕ) (ω : K) where
+  module _ (heights : List ℕ) (below : WithinHeights q heights (cellsOf q S)) (s : ℕ) (ω : K) where
     lower-is : (p j i : ℕ) → substitutedPart (symbols q) q s ω S p lower j i
         ≡ coefficient (symbols q) q S p lower j i ⊕ ω ⊗ timesMonomial (symbols q) q s (coefficient (symbols q) q S p upper) j i
     unfolding substitutedPart
@@ -120,7 +120,7 @@ module _ (q : ℕ) (known : Known q) where
   open Symbols (symbols q) using (K)
 
   -- the substitution for z changes no upper part
-  pub below-replaced : (heights : List ℕ) (S : Cells q) → Below q heights S → (a b : ℕ) (ρ : K) → Below q heights (replacedZ q heights a b ρ (2 * q) S)
+  pub below-replaced : (heights : List ℕ) (S : Cells q) → WithinHeights q heights S → (a b : ℕ) (ρ : K) → WithinHeights q heights (replacedZ q heights a b ρ (2 * q) S)
   unfolding productAdded
   below-replaced heights S below a b ρ =
       record {
@@ -130,8 +130,8 @@ module _ (q : ℕ) (known : Known q) where
             ∙ below .above p r i hp hr hi past;
       }
 
-  pub below-substituted : (heights : List ℕ) (S : Polynomials (symbols q) q) → Below q heights (cellsOf q S) → (s : ℕ) (ω : K)
-      → Below q heights (cellsOf q (substituted (symbols q) q s ω S))
+  pub below-substituted : (heights : List ℕ) (S : Polynomials (symbols q) q) → WithinHeights q heights (cellsOf q S) → (s : ℕ) (ω : K)
+      → WithinHeights q heights (cellsOf q (substituted (symbols q) q s ω S))
   below-substituted heights S below s ω =
       ⊎-elim
       (λ (e : number q ω ≡ 0). rw (substituted-none q known S heights below s ω e) below)

@@ -12,7 +12,7 @@ ghost use Rattle.published.specs.Start.{Polynomials};
 ghost use Rattle.published.specs.Steps.{substituted};
 ghost use Rattle.workarea.specs.Area.{Area, cellsOf, Turns, Becomes, Multiplies};
 ghost use Rattle.substitution.specs.Products.{Apart, sourceRow, sourceShift, productRowAdded, productAdded, replacedZ};
-ghost use Rattle.workarea.specs.Heights.{Below};
+ghost use Rattle.workarea.specs.Heights.{WithinHeights};
 
 // A part of a polynomial: its q rows from `row` on.
 pub struct Part {
@@ -142,7 +142,7 @@ pub fn substitute(table: &[u8], work: &mut [u8], q: usize, heights: &[usize], s:
     requires { ⌜ Area q (length (now work)) ⌝ }
     requires { ⌜ 2 * q ≤ length (now heights) ⌝ }
     requires { ⌜ (s ≤ 1000) × ((vote ≡ 0 → ⊥) → gap q s ≡ false) × HasProducts q (now table) ⌝ }
-    ensures { λ _. ⌜ ((S : Polynomials (symbols q) q) (ω : Sym q) → vote ≡ number q ω → Below q (now (heights .entry)) (cellsOf q S)
+    ensures { λ _. ⌜ ((S : Polynomials (symbols q) q) (ω : Sym q) → vote ≡ number q ω → WithinHeights q (now (heights .entry)) (cellsOf q S)
         → Becomes q (now (work .entry)) (now (work .exit)) S (substituted (symbols q) q s ω S)) ⌝ }
 {
     if vote == 0 {

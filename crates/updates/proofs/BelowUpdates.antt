@@ -16,7 +16,7 @@ use Rattle.symbols.proofs.FieldLaws.{laws-of}
 use Rattle.published.specs.Start.{Polynomials, width}
 use Rattle.workarea.specs.Area.{Cells, cellsOf, Turns, withRows, firstSymbols, minusMultiple, raisedMinus}
 use Rattle.updates.specs.Updates.{rowHeight, polynomialReduced, polynomialsExchanged}
-use Rattle.workarea.specs.Heights.{Heights, Below, BecomesBelow, heightOfSum, heightsAdded, heightsExchanged}
+use Rattle.workarea.specs.Heights.{Heights, WithinHeights, BecomesBelow, heightOfSum, heightsAdded, heightsExchanged}
 use Rattle.workarea.proofs.Cells.{rows-out, all-rows}
 use Rattle.workarea.proofs.Becoming.{becomes, below-same}
 use Rattle.workarea.proofs.FirstSymbols.{first-in, first-out}
@@ -41,9 +41,9 @@ module _ (q : ℕ) (known : Known q) where
       (λ (l : n ≤ i). first-out q n a i l)
       (lt-or-ge i n)
 
-  module _ (heights : List ℕ) (many : Heights q heights) (S : Cells q) (below : Below q heights S) (f g c : ℕ) (ρ : K) (hf : f < 2 * q) (hg : g < 2 * q) where
+  module _ (heights : List ℕ) (many : Heights q heights) (S : Cells q) (below : WithinHeights q heights S) (f g c : ℕ) (ρ : K) (hf : f < 2 * q) (hg : g < 2 * q) where
     -- after polynomial f has become f - ρ·x^c·g
-    pub below-reduced : (n : ℕ) → Below q (heightsAdded q f g c heights) (polynomialReduced q f g n c ρ (2 * q) S)
+    pub below-reduced : (n : ℕ) → WithinHeights q (heightsAdded q f g c heights) (polynomialReduced q f g n c ρ (2 * q) S)
     unfolding heightsAdded polynomialReduced
     below-reduced n =
         record {
@@ -70,7 +70,7 @@ module _ (q : ℕ) (known : Known q) where
         new = heightOfSum q (getD heights f 0) (getD heights g 0 + c)
 
     -- after f has become x^c·f - ρ·g, and g what f was
-    pub below-exchanged : (f ≡ g → ⊥) → Below q (heightsExchanged q f g c heights) (polynomialsExchanged q f g c ρ (2 * q) S)
+    pub below-exchanged : (f ≡ g → ⊥) → WithinHeights q (heightsExchanged q f g c heights) (polynomialsExchanged q f g c ρ (2 * q) S)
     unfolding heightsExchanged polynomialsExchanged
     below-exchanged apart =
         record {
@@ -110,7 +110,7 @@ module _ (q : ℕ) (known : Known q) where
             ∙ below .above p r i hp hr hi (rw (getD-set-other heights f p new 0 ne) at past))
             (same-or-not p f)
 
-  module _ (heights heights′ : List ℕ) (many : Heights q heights) (S T : Polynomials (symbols q) q) (below : Below q heights (cellsOf q S))
+  module _ (heights heights′ : List ℕ) (many : Heights q heights) (S T : Polynomials (symbols q) q) (below : WithinHeights q heights (cellsOf q S))
       (f g c : ℕ) (ρ : K) (hf : f < 2 * q) (hg : g < 2 * q) {before after : List ℕ} where
     -- both updates of the bytes and of the heights, where their cells are those of T
     pub becomes-reduced : (n : ℕ) → Turns q before after (polynomialReduced q f g n c ρ (2 * q)) → heights′ ≡ heightsAdded q f g c heights

@@ -12,7 +12,7 @@ ghost use Rattle.published.specs.Pairing.{Pairing};
 ghost use Rattle.published.specs.Steps.{ratio, changed, updated};
 ghost use Rattle.workarea.specs.Area.{Area, cellsOf, Turns, Multiplies};
 ghost use Rattle.updates.specs.Updates.{rowHeight, polynomialReduced, polynomialsExchanged};
-ghost use Rattle.workarea.specs.Heights.{Heights, Below, BecomesBelow};
+ghost use Rattle.workarea.specs.Heights.{Heights, WithinHeights, BecomesBelow};
 ghost use Rattle.stepvotes.specs.Pairs.{Held, NumbersOf, pairAt};
 
 // How many symbols of row r are added: of an upper row no more than there are.
@@ -97,7 +97,7 @@ fn change(
     requires { ⌜ (i < q) × Held q pair × HasProducts q (now table) ⌝ }
     ensures { λ _. ⌜ Heights q (now (heights .exit)) ⌝ }
     ensures { λ _. ⌜ ((S : Polynomials (symbols q) q) (ω : Sym q) (P : Pairing (symbols q) q) → vote ≡ number q ω → NumbersOf q pair P
-        → Below q (now (heights .entry)) (cellsOf q S)
+        → WithinHeights q (now (heights .entry)) (cellsOf q S)
         → BecomesBelow q (now (work .entry)) (now (work .exit)) S (changed (symbols q) q ω i P S) (now (heights .exit))) ⌝ }
 {
     let w = pair.w;
@@ -134,7 +134,7 @@ pub fn change_all(
     requires { ⌜ ((i : ℕ) → i < q → Held q (pairAt pairs i)) × HasProducts q (now table) ⌝ }
     ensures { λ _. ⌜ Heights q (now (heights .exit)) ⌝ }
     ensures { λ _. ⌜ ((S : Polynomials (symbols q) q) (ω : Sym q) (P : ℕ → Pairing (symbols q) q) → vote ≡ number q ω
-        → ((i : ℕ) → i < q → NumbersOf q (pairAt pairs i) (P i)) → Below q (now (heights .entry)) (cellsOf q S)
+        → ((i : ℕ) → i < q → NumbersOf q (pairAt pairs i) (P i)) → WithinHeights q (now (heights .entry)) (cellsOf q S)
         → BecomesBelow q (now (work .entry)) (now (work .exit)) S (updated (symbols q) q ω (tab q P) S q) (now (heights .exit))) ⌝ }
 {
     for i in 0..q {

@@ -7,7 +7,7 @@ use native.Mathlib.Omega.{arith}
 use Rattle.symbols.specs.Rule.{symbols}
 use Rattle.published.specs.Start.{Polynomials, width}
 use Rattle.workarea.specs.Area.{Cells, cellsOf, Turns, Becomes}
-use Rattle.workarea.specs.Heights.{Below, BecomesBelow}
+use Rattle.workarea.specs.Heights.{WithinHeights, BecomesBelow}
 use Rattle.workarea.proofs.Cells.{picture-is, shown-same}
 
 -- a change of cells that makes the cells of T of those of S
@@ -30,7 +30,7 @@ becomes-then q b b′ = record { shows = λ rest e. b′ .shows rest (b .shows r
 
 -- the same symbols have the same heights
 pub below-same : (q : ℕ) (heights : List ℕ) (S T : Cells q) → ((p r i : ℕ) → p < 2 * q → r < 2 * q → i < width q → S p r i ≡ T p r i)
-    → Below q heights S → Below q heights T
+    → WithinHeights q heights S → WithinHeights q heights T
 below-same q heights S T same below =
     record { above = λ p r i hp hr hi past. sym (same p r i hp (omega arith) hi) ∙ below .above p r i hp hr hi past }
 

@@ -16,13 +16,13 @@ pub record Heights (q : ℕ) (heights : List ℕ) : Type 0 where
   pub low : (p : ℕ) → p < 2 * q → getD heights p 0 ≤ width q
 
 -- no symbol but zero stands in an upper row from the polynomial's height on
-pub record Below (q : ℕ) (heights : List ℕ) (S : Cells q) : Type 0 where
+pub record WithinHeights (q : ℕ) (heights : List ℕ) (S : Cells q) : Type 0 where
   pub above : (p r i : ℕ) → p < 2 * q → r < q → i < width q → getD heights p 0 ≤ i → S p r i ≡ symbols q .𝟘
 
 -- bytes that start with the picture of S start after the code with that of T, whose upper parts these heights bound
 pub record BecomesBelow (q : ℕ) (before after : List ℕ) (S T : Polynomials (symbols q) q) (heights : List ℕ) : Type 0 where
   pub becomes : Becomes q before after S T
-  pub below : Below q heights (cellsOf q T)
+  pub below : WithinHeights q heights (cellsOf q T)
 
 -- the heights before the first step: g_i has no upper part, and that of f_i is y^i
 pub record AtStart (q : ℕ) (heights : List ℕ) : Type 0 where

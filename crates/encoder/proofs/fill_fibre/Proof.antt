@@ -11,14 +11,15 @@ use Rattle.symbols.specs.Rule.{Sym}
 use Rattle.symbols.specs.Tables.{productRow}
 use Rattle.symbols.proofs.Bytes.{known-positive, known-high, square-small}
 use Rattle.curve.proofs.Sizes.{count-small}
-use Rattle.encoder.specs.Stages.{Holds, fibreNumber}
+use Rattle.encoder.specs.Stages.{fibreNumber}
+use Rattle.symbols.specs.Tables.{Holds}
 use Rattle.encoder.proofs.Values.{fibre-within, fibre-value}
 use Rattle.encoder.proofs.fill_fibre.Statement.{statement}
 use Rattle.encoder.proofs.fill_fibre.Tie as tie
 
 abbrev Inv-loop : tie.InvT-loop
 Inv-loop table q x values row₀ ordinates start b₀ row b =
-    (b ≤ q) × (length row ≡ length row₀) × ((v : ℕ → Sym q) → Holds q v q values → row ≡ put row₀ (x * q) b (fibreNumber q v x))
+    (b ≤ q) × (length row ≡ length row₀) × ((v : ℕ → Sym q) → Holds q values q v → row ≡ put row₀ (x * q) b (fibreNumber q v x))
 
 abbrev μ-loop : tie.MeasureT-loop
 μ-loop table q x values row₀ ordinates start b₀ row b = q - b

@@ -8,7 +8,8 @@ use Rattle.algebra.specs.Symbols.{power}
 use Rattle.symbols.specs.Rule.{Sym, symbols, number, symbol}
 use Rattle.symbols.specs.Tables.{productRow}
 use Rattle.symbols.proofs.Bytes.{number-of-below}
-use Rattle.startarea.specs.StartArea.{Holds}
+use Rattle.symbols.specs.Tables.{Holds}
+use Rattle.startarea.specs.StartArea.{}
 use Rattle.workarea.proofs.RowLaws.{multiplies}
 use Rattle.startarea.proofs.StartParts.{Added, added-none, added-more, term-first, term-more, added-all}
 use borrow.Author.Needs.{needs}

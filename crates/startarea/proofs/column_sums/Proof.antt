@@ -5,7 +5,8 @@ use Prim.Native.Nat.{_-_, _≤_}
 use native.Mathlib.Omega.{arith}
 use Rattle.symbols.proofs.Bytes.{known-low, known-high, square-small}
 use Rattle.symbols.proofs.SymbolLists.{below-all}
-use Rattle.startarea.specs.StartArea.{Holds, columnSum}
+use Rattle.symbols.specs.Tables.{Holds}
+use Rattle.startarea.specs.StartArea.{columnSum}
 use Rattle.startarea.proofs.StartColumns.{holds-cong, holds-zeros, point-place, column-none, column-more}
 use borrow.Author.Needs.{needs}
 use Rattle.startarea.proofs.column_sums.Statement.{statement}

@@ -10,7 +10,7 @@ use Rattle.published.specs.Start.{Polynomials}
 use Rattle.published.specs.Pairing.{Pairing}
 use Rattle.published.specs.Steps.{updated}
 use Rattle.workarea.specs.Area.{cellsOf}
-use Rattle.workarea.specs.Heights.{Heights, Below, BecomesBelow}
+use Rattle.workarea.specs.Heights.{Heights, WithinHeights, BecomesBelow}
 use Rattle.stepvotes.specs.Pairs.{NumbersOf, pairAt}
 use Rattle.workarea.proofs.Cells.{still}
 use Rattle.workarea.proofs.Becoming.{becomes-same, becomes-below}
@@ -23,7 +23,7 @@ abbrev Inv-loop : tie.InvT-loop
 Inv-loop table work₀ q heights₀ vote pairs i₀ work heights i =
     (i ≤ q) × (length work ≡ length work₀) × (length heights ≡ length heights₀) × Heights q heights
     × ((S : Polynomials (symbols q) q) (ω : Sym q) (P : ℕ → Pairing (symbols q) q) → vote ≡ number q ω
-    → ((j : ℕ) → j < q → NumbersOf q (pairAt pairs j) (P j)) → Below q heights₀ (cellsOf q S)
+    → ((j : ℕ) → j < q → NumbersOf q (pairAt pairs j) (P j)) → WithinHeights q heights₀ (cellsOf q S)
     → BecomesBelow q work₀ work S (updated (symbols q) q ω (tab q P) S i) heights)
 
 abbrev μ-loop : tie.MeasureT-loop

@@ -14,7 +14,7 @@ use Rattle.symbols.specs.Rule.{symbols}
 use Rattle.published.specs.Start.{Polynomials}
 use Rattle.workarea.specs.Area.{cellsOf, Starts}
 use Rattle.stepvotes.specs.Reading.{Short, LeadingOf}
-use Rattle.workarea.specs.Heights.{Below}
+use Rattle.workarea.specs.Heights.{WithinHeights}
 use Rattle.stepvotes.specs.Pairs.{Held}
 use Rattle.stepvotes.proofs.Signed.{Divided, divided, k-small, back, less-small, less-fits, less-value}
 use Rattle.stepvotes.proofs.PairNumbers.{lead-f, pair-voted, pair-unvoted}
@@ -44,7 +44,7 @@ parts c = divided _ _ (c .before .before .before .before .before .pre .0 .known)
 
 -- the leading symbol of f_i: the height is that of the upper row that is read
 leads : (c : tie.After-leading-below) → let s = c .before .before .before .before .before in
-    (S : Polynomials (symbols (s .args .q)) (s .args .q)) → Below (s .args .q) (now (s .args .heights)) (cellsOf (s .args .q) S)
+    (S : Polynomials (symbols (s .args .q)) (s .args .q)) → WithinHeights (s .args .q) (now (s .args .heights)) (cellsOf (s .args .q) S)
     → Starts (s .args .q) (now (s .args .work)) (cellsOf (s .args .q) S)
     → LeadingOf (s .args .q) (c .leading-below .result) (cellsOf (s .args .q) S (s .args .q + s .args .i) (s .args .i))
 leads c S below z =

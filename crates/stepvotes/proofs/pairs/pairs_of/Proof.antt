@@ -9,7 +9,7 @@ use Rattle.symbols.specs.Rule.{symbols}
 use Rattle.published.specs.Start.{Polynomials}
 use Rattle.published.specs.Pairing.{isVoted, pairing}
 use Rattle.workarea.specs.Area.{cellsOf, Starts, Narrow}
-use Rattle.workarea.specs.Heights.{Below}
+use Rattle.workarea.specs.Heights.{WithinHeights}
 use Rattle.stepvotes.specs.Pairs.{Held, NumbersOf, pairAt}
 use borrow.Author.Needs.{needs}
 use Rattle.stepvotes.proofs.pairs.pairs_of.Statement.{statement}
@@ -18,7 +18,7 @@ use Rattle.stepvotes.proofs.pairs.pairs_of.Tie as tie
 abbrev Inv-loop : tie.InvT-loop
 Inv-loop table work q heights s voted pairs₀ i₀ pairs i =
     (i ≤ q) × (length pairs ≡ 4) × ((j : ℕ) → j < i → Held q (pairAt pairs j))
-    × ((S : Polynomials (symbols q) q) (u : ℕ) → Narrow q (cellsOf q S) → Below q heights (cellsOf q S) → Starts q work (cellsOf q S) → isVoted q u s ≡ voted
+    × ((S : Polynomials (symbols q) q) (u : ℕ) → Narrow q (cellsOf q S) → WithinHeights q heights (cellsOf q S) → Starts q work (cellsOf q S) → isVoted q u s ≡ voted
     → (j : ℕ) → j < i → NumbersOf q (pairAt pairs j) (pairing (symbols q) q u s S j))
 
 abbrev μ-loop : tie.MeasureT-loop
