@@ -40,10 +40,10 @@ module _ (q : ℕ) (known : Known q) (S : Polynomials (symbols q) q) where
   in-table : (G : ℕ → Polynomial (symbols q) q) (p r n : ℕ) → p < 2 * q → cellsOf q (tab (2 * q) G) p r n ≡ held q (G p) r n
   in-table G p r n hp = cell-held q (tab (2 * q) G) p r n ∙ ap (λ (F : Polynomial (symbols q) q). held q F r n) (getD-tab (2 * q) G p [] hp)
 
-  -- nothing is left out of a row that is added, where the upper rows have no more than h symbols
-  all-added : (g h : ℕ) → ((r n : ℕ) → r < q → n < width q → h ≤ n → cellsOf q S g r n ≡ symbols q .𝟘) → (r n : ℕ) → n < width q
+  -- nothing is left out of a row that is subtracted, where the upper rows have no more than h symbols
+  all-subtracted : (g h : ℕ) → ((r n : ℕ) → r < q → n < width q → h ≤ n → cellsOf q S g r n ≡ symbols q .𝟘) → (r n : ℕ) → n < width q
       → firstSymbols q (rowHeight q h r) (cellsOf q S g r) n ≡ cellsOf q S g r n
-  all-added g h short r n hn =
+  all-subtracted g h short r n hn =
       ⊎-elim
       (λ (l : r < q). rw (height-upper q h r l) (first-all q h (cellsOf q S g r) n (short r n l hn)))
       (λ (l : q ≤ r). rw (height-lower q h r l) (first-in q (width q) (cellsOf q S g r) n hn))
@@ -56,7 +56,7 @@ module _ (q : ℕ) (known : Known q) (S : Polynomials (symbols q) q) where
   unfolding reducedPart timesX cellsOf
   reduced-cell i g h c ρ short r n hr hn =
       multiple-is q known _⊖_ (cellsOf q S (q + i) r) ρ c (firstSymbols q (rowHeight q h r) (cellsOf q S g r)) n
-      ∙ ap (λ (y : K). cellsOf q S (q + i) r n ⊖ ρ ⊗ y) (shift-cong (symbols q) q c n (λ m l. all-added g h short r m (omega arith)))
+      ∙ ap (λ (y : K). cellsOf q S (q + i) r n ⊖ ρ ⊗ y) (shift-cong (symbols q) q c n (λ m l. all-subtracted g h short r m (omega arith)))
       ∙ sym (held-polynomial q (reducedPart (symbols q) q S i g c ρ) r n hr hn)
 
   -- a cell of x^c·f_i - ρ·g

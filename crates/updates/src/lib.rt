@@ -15,7 +15,7 @@ ghost use Rattle.updates.specs.Updates.{rowHeight, polynomialReduced, po
 ghost use Rattle.workarea.specs.Heights.{Heights, WithinHeights, BecomesBelow};
 ghost use Rattle.stepvotes.specs.Pairs.{Held, NumbersOf, pairAt};
 
-// How many symbols of row r are added: of an upper row no more than there are.
+// How many symbols of row r are subtracted: of an upper row no more than there are.
 fn row_height(q: usize, r: usize, height: usize) -> usize
     requires { ⌜ Known q ⌝ }
     ensures { λ n. ⌜ n ≡ rowHeight q height r ⌝ }

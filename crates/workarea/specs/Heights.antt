@@ -41,11 +41,11 @@ larger a b = elim (leb a b) [ true ↦ b | false ↦ a ]
 unfoldable pub heightOfSum : ℕ → ℕ → ℕ → ℕ
 heightOfSum q a b = smaller (width q) (larger a b)
 
--- the heights after polynomial f has become f + ρ·x^c·g
+-- the heights after polynomial f has become f - ρ·x^c·g
 unfoldable pub heightsAdded : ℕ → ℕ → ℕ → ℕ → List ℕ → List ℕ
 heightsAdded q f g c heights = set heights f (heightOfSum q (getD heights f 0) (getD heights g 0 + c))
 
--- the heights after f has become x^c·f + ρ·g, and g what f was
+-- the heights after f has become x^c·f - ρ·g, and g what f was
 unfoldable pub heightsExchanged : ℕ → ℕ → ℕ → ℕ → List ℕ → List ℕ
 heightsExchanged q f g c heights =
     set (set heights f (heightOfSum q (getD heights f 0 + c) (getD heights g 0))) g (getD heights f 0)

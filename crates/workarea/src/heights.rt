@@ -27,7 +27,7 @@ fn height_of_sum(q: usize, a: usize, b: usize) -> usize
     smaller(area::width_of(q), larger(a, b))
 }
 
-// The heights after polynomial f has become f + m·x^shift·g.
+// The heights after polynomial f has become f - m·x^shift·g.
 pub fn add_heights(heights: &mut [usize], q: usize, f: usize, g: usize, shift: usize)
     requires { ⌜ Known q × Heights q (now heights) ⌝ }
     requires { ⌜ (f < 2 * q) × (g < 2 * q) × (shift ≤ 2000) ⌝ }
@@ -37,7 +37,7 @@ pub fn add_heights(heights: &mut [usize], q: usize, f: usize, g: usize, shift: u
     heights[f] = sum;
 }
 
-// The heights after f has become x^shift·f + m·g, and g what f was.
+// The heights after f has become x^shift·f - m·g, and g what f was.
 pub fn exchange_heights(heights: &mut [usize], q: usize, f: usize, g: usize, shift: usize)
     requires { ⌜ Known q × Heights q (now heights) ⌝ }
     requires { ⌜ (f < 2 * q) × (g < 2 * q) × (shift ≤ 2000) ⌝ }
