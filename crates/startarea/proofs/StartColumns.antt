@@ -31,7 +31,7 @@ use Rattle.workarea.specs.Area.{rowPlace, Cells, shown, Turns, withRows}
 use Rattle.startarea.specs.StartArea.{minusValue, minusValues, plusPart, columnSum, columnOf, columnsOf}
 use Rattle.workarea.proofs.Cells.{shown-read}
 use Rattle.workarea.proofs.Sizes.{sizes}
-use Rattle.workarea.proofs.RowLaws.{multiplies}
+use Rattle.workarea.proofs.Multipliers.{multiplies}
 use Rattle.startarea.proofs.StartBytes.{shown-places}
 use Rattle.startarea.proofs.StartFirsts.{minus-one, less-none}
 

@@ -25,7 +25,7 @@ use Rattle.substitution.specs.declared.Part.{Part}
 use Rattle.startarea.specs.StartArea.{begun, multipleAdded}
 use Rattle.workarea.proofs.FirstSymbols.{first-in}
 use Rattle.workarea.proofs.Cells.{rows-in, rows-out}
-use Rattle.workarea.proofs.RowLaws.{multiplies}
+use Rattle.workarea.proofs.Multipliers.{multiplies}
 use Rattle.substitution.proofs.Turned.{timesYs-cong}
 
 -- each row is one of the upper or one of the lower part

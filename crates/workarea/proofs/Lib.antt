@@ -4,5 +4,6 @@ pub mod Sizes
 pub mod FirstSymbols
 pub mod HeightLaws
 pub mod RowLaws
+pub mod Multipliers
 pub mod Coefficients
 pub mod Becoming

@@ -1,10 +1,10 @@
 -- What the loops over the bytes of rows do to the cells that the bytes show.
 -- Assumes nothing.
-use mathlib.Core.Path.{_≡_, refl, sym, ap, _∙_, subst}
+use mathlib.Core.Path.{_≡_, refl, sym, ap, _∙_}
 use mathlib.Core.List.{List, _++_}
 use mathlib.Core.Logic.{_⊎_, inl, inr, ⊎-elim}
 use Prim.Native.Nat.{ℕ, _+_, _-_, _*_, _%_, _<_, _≤_}
-use native.Mathlib.Nat.{add-assoc, mod-eq-of-lt}
+use native.Mathlib.Nat.{add-assoc}
 use native.Mathlib.Omega.{arith}
 use lib.ListN.{getD}
 use Rattle.algebra.specs.Symbols.{Symbols}
@@ -13,16 +13,13 @@ use Rattle.algebra.proofs.Ring.{ring, add-zero, mul-zero}
 use Rattle.algebra.proofs.Polynomials.{shift-add, shift-below}
 use Rattle.lists.specs.Tables.{put}
 use Rattle.lists.proofs.Put.{put-same, put-out, put-put, put-kept, put-parts, put-parts-back}
-use Rattle.symbols.specs.Rule.{Known, sumOf, differenceOf, symbols, Sym, number, symbol}
-use Rattle.symbols.specs.Tables.{productRow}
-use Rattle.symbols.proofs.TableRules.{row-at}
+use Rattle.symbols.specs.Rule.{Known, sumOf, differenceOf, symbols, number}
 use Rattle.symbols.proofs.FieldLaws.{laws-of}
-use Rattle.symbols.proofs.Bytes.{number-of-sum, number-of-difference, number-of-negative, size-known}
+use Rattle.symbols.proofs.Bytes.{number-of-sum, number-of-difference, number-of-negative}
 use Rattle.published.specs.Start.{width}
 use Rattle.workarea.specs.Area.{madeByte, made, raisedByte, exchangedAbove, negativeByte, exchangedBelow, rowPlace, Counted, Cells, shown, Multiplies, withRows, firstSymbols, withMultiple, rowMade, raisedMinus}
 use Rattle.workarea.proofs.Cells.{shown-read, shown-put}
 use Rattle.workarea.proofs.Bytes.{made-none}
-use Rattle.workarea.proofs.Sizes.{sizes}
 use Rattle.workarea.proofs.FirstSymbols.{first-in, first-out}
 
 module _ (q : ℕ) (known : Known q) where
@@ -247,19 +244,3 @@ module _ (q : ℕ) (known : Known q) where
               let z : c + k - c ≡ k = omega arith in
               rw (z, byte k (omega arith), product (c + k) (omega arith), raised-above (S p r) ρ c (S p′ r′) k)
               (number-of-difference q known (S p r k) (ρ ⊗ S p′ r′ (c + k)))
-
--- the table row of a byte multiplies by its symbol
-pub multiplies : (q m : ℕ) → Known q → Multiplies q (productRow q m) (symbol q m)
-multiplies q m known =
-    record {
-      at = λ a.
-          let below : number q a < q * q = laws-of q known .number-below a in
-          let small : q * q ≤ 16 = sizes q known .square-few in
-          rw (mod-eq-of-lt {n = number q a} {m = 16} (omega arith))
-          (row-at q m (number q a) (rw (size-known q known) small) (rw (size-known q known) below)
-          ∙ ap (λ (b : Sym q). number q (symbols q ._⊗_ (symbol q m) b)) (laws-of q known .symbol-number a));
-    }
-
--- that of a symbol's number multiplies by the symbol
-pub multiplies-symbol : (q : ℕ) → Known q → (ρ : Sym q) → Multiplies q (productRow q (number q ρ)) ρ
-multiplies-symbol q known ρ = subst (Multiplies q (productRow q (number q ρ))) (laws-of q known .symbol-number ρ) (multiplies q (number q ρ) known)

@@ -10,7 +10,7 @@ use Rattle.symbols.specs.Tables.{productRow}
 use Rattle.symbols.proofs.Bytes.{number-of-below}
 use Rattle.symbols.specs.Tables.{Holds}
 use Rattle.startarea.specs.StartArea.{}
-use Rattle.workarea.proofs.RowLaws.{multiplies}
+use Rattle.workarea.proofs.Multipliers.{multiplies}
 use Rattle.startarea.proofs.StartParts.{Added, added-none, added-more, term-first, term-more, added-all}
 use borrow.Author.Needs.{needs}
 use Rattle.startarea.proofs.add_part.Statement.{statement}

@@ -3,7 +3,7 @@
 use mathlib.Core.Path.{sym, _∙_}
 use native.Mathlib.Omega.{arith}
 use Rattle.workarea.proofs.Becoming.{becomes, becomes-same}
-use Rattle.workarea.proofs.RowLaws.{multiplies-symbol}
+use Rattle.workarea.proofs.Multipliers.{multiplies-symbol}
 use Rattle.substitution.proofs.ReplaceLaws.{powers-of, not-gap, powers-small, substituted-none, substituted-cells}
 use borrow.Author.Needs.{needs}
 use Rattle.substitution.proofs.substitute.Statement.{statement}

@@ -7,7 +7,7 @@ use Rattle.symbols.specs.Rule.{symbols}
 use Rattle.published.specs.Pairing.{positivePart, negativePart}
 use Rattle.published.specs.Steps.{ratio}
 use Rattle.stepvotes.proofs.Signed.{back, cast-fits, positive-yes, positive-no, minus-fits, minus-value, minus-cast}
-use Rattle.workarea.proofs.RowLaws.{multiplies-symbol}
+use Rattle.workarea.proofs.Multipliers.{multiplies-symbol}
 use Rattle.workarea.proofs.Becoming.{becomes-same}
 use Rattle.updates.proofs.ChangeLaws.{unchanged, changed-raised, changed-reduced}
 use Rattle.workarea.proofs.HeightLaws.{heights-added, heights-exchanged}
