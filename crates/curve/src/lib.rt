@@ -126,7 +126,7 @@ pub fn reach(q: usize, u: usize) -> usize
     if u < n { (n - u - 1) / 2 } else { 0 }
 }
 
-// The code that q and u name, or the refusal 1 or 2. Every call asks for it first and hands it on.
+// The code that q and u name, or the refusal 1 or 2. Encoding, stopping and decoding ask for it first and hand it on.
 pub fn code_of(q: usize, u: usize) -> Named
     ensures { λ r. ⌜ r ≡ named q u ⌝ }
 {
