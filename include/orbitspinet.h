@@ -3,8 +3,9 @@
  *
  * A row is a word of the code named by q and u on the curve y^q + y = x^(q+1); a symbol is a number below q², one a byte.
  * q is 2 or 4, and u is a non-gap from q to n - 1, with n = q³ symbols in a row. k is the number of non-gaps from 0 to u
- * and the number of symbols in a message; the gaps are 1 for q = 2 and 1, 2, 3, 6, 7, 11 for q = 4. The reach is
- * (n - u - 1) / 2, rounded down. Tapes have the code q = 4, u = 45.
+ * and the number of symbols in a message; the gaps are 1 for q = 2 and 1, 2, 3, 6, 7, 11 for q = 4. The distance of the code
+ * is, with a = u / q rounded down and b = u - aq, q³ - aq if b ≤ a - (q² - q), else q³ - u; the reach is half of
+ * the distance less one, rounded down. Tapes have the code q = 4, u = 45.
  *
  * Each area is lent as a pointer and the number of its bytes. It must hold that many bytes, and an area that is written to
  * may share no byte with another area of the call. No pointer may be null, also where the number is 0. Nothing else is

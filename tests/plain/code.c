@@ -48,6 +48,15 @@ static void number_message_places(struct code *code)
     }
 }
 
+/* The distance of a code, with u = aq + b: q³ - aq if b ≤ a - (q² - q), else q³ - u. */
+static size_t distance_of(size_t q, size_t u)
+{
+    size_t a = u / q, b = u % q;
+    if (b + q * q - q <= a)
+        return q * q * q - a * q;
+    return q * q * q - u;
+}
+
 int find_code(uint64_t q, uint64_t u, struct code *code)
 {
     if (q != 2 && q != 4)
@@ -57,7 +66,7 @@ int find_code(uint64_t q, uint64_t u, struct code *code)
     code->q = q;
     code->u = u;
     code->n = q * q * q;
-    code->reach = (code->n - u - 1) / 2;
+    code->reach = (distance_of(q, u) - 1) / 2;
     code->step_count = code->n + q * q - q;
     code->width = q * q + 2 * q - 1;
     code->area = 4 * q * q * code->width;

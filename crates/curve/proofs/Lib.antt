@@ -5,6 +5,7 @@ pub mod OrdinateSets
 pub mod MessageFunction
 pub mod RowLaws
 pub mod CodeLaws
+pub mod Distances
 pub mod MonomialAnswers
 pub mod Naming
 pub mod GivenChecks

@@ -1,8 +1,9 @@
--- The codes: q and u, how long messages and rows are, and the reach. Document 01, "Fields and curve".
+-- The codes: q and u, how long messages and rows are, the distance and the reach. Document 01, "Fields and curve"; the distance
+-- is that of Wish 2.
 -- Assumes nothing.
-use mathlib.Core.Bool.{Bool, _&&_}
+use mathlib.Core.Bool.{Bool, cond, _&&_}
 use mathlib.Core.List.{List}
-use Prim.Native.Nat.{ℕ, _+_, _*_, _-_, _/_}
+use Prim.Native.Nat.{ℕ, _+_, _*_, _-_, _/_, _%_}
 use lib.Dec.{leb, ltb}
 use lib.ListN.{length}
 use Rattle.algebra.specs.Weights.{nongap}
@@ -24,6 +25,14 @@ nongaps q u = keep (nongap q) (tab (u + 1) (λ s. s))
 unfoldable pub dimension : ℕ → ℕ → ℕ
 dimension q u = length (nongaps q u)
 
--- "The reach is τ = floor((n - u - 1)/2)"
+-- how far apart any two rows of a code are at least, with u = aq + b and b below q: q³ - aq if b ≤ a - (q² - q), else q³ - u
+-- (source 000, proposition 14); the test has q² - q on the left, since a may be less than it
+unfoldable pub distance : ℕ → ℕ → ℕ
+distance q u =
+    let a = u / q in
+    let b = u % q in
+    cond (leb (b + (q * q - q)) a) (pointCount q - a * q) (pointCount q - u)
+
+-- half of what is below the distance, rounded down
 unfoldable pub reach : ℕ → ℕ → ℕ
-reach q u = (pointCount q - u - 1) / 2
+reach q u = (distance q u - 1) / 2

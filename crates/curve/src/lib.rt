@@ -6,7 +6,7 @@ ghost use Rattle.algebra.specs.Symbols.{power};
 ghost use Rattle.algebra.specs.Weights.{gap};
 ghost use Rattle.symbols.specs.Rule.{Known, symbols, number, symbol};
 ghost use Rattle.symbols.specs.Tables.{productRow};
-ghost use Rattle.curve.specs.Codes.{pointCount, isCode, dimension as dimensionOf, reach as reachOf};
+ghost use Rattle.curve.specs.Codes.{pointCount, isCode, dimension as dimensionOf, distance as distanceOf, reach as reachOf};
 ghost use Rattle.curve.specs.Answers.{monomialOf, named};
 ghost use Rattle.curve.specs.Ordinates.{setPlace, ordinatesAbove};
 
@@ -117,13 +117,27 @@ pub fn dimension(q: usize, u: usize) -> usize
     count
 }
 
-// The reach of a code.
-pub fn reach(q: usize, u: usize) -> usize
-    requires { ⌜ Known q ⌝ }
-    ensures { λ r. ⌜ r ≡ reachOf q u ⌝ }
+// The distance of a code: the row of aq decides it where u = aq + b is not far above that.
+fn distance(q: usize, u: usize) -> usize
+    requires { ⌜ Known q × (u < pointCount q) ⌝ }
+    ensures { λ r. ⌜ r ≡ distanceOf q u ⌝ }
 {
     let n = point_count(q);
-    if u < n { (n - u - 1) / 2 } else { 0 }
+    let a = quotient(q, u);
+    let b = remainder(q, u);
+    if b + (q * q - q) <= a {
+        n - a * q
+    } else {
+        n - u
+    }
+}
+
+// The reach of a code.
+fn reach(q: usize, u: usize) -> usize
+    requires { ⌜ Known q × (u < pointCount q) ⌝ }
+    ensures { λ r. ⌜ r ≡ reachOf q u ⌝ }
+{
+    (distance(q, u) - 1) / 2
 }
 
 // The code that q and u name, or the refusal 1 or 2. Encoding, stopping and decoding ask for it first and hand it on.

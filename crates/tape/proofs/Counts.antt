@@ -13,8 +13,10 @@ use Rattle.refusals.specs.Numbers.{Check}
 use Rattle.refusals.proofs.Checks.{Refuses, Passes, refused, passed, decideChecks, passes-split}
 use Rattle.symbols.specs.Rule.{Known}
 use Rattle.symbols.proofs.Bytes.{test-known}
-use Rattle.curve.specs.Codes.{pointCount, reach}
+use Rattle.curve.specs.Codes.{reach}
 use Rattle.curve.specs.Answers.{codeChecks}
+use Rattle.curve.proofs.Sizes.{count-small}
+use Rattle.curve.proofs.Distances.{reach-most}
 use Rattle.curve.proofs.Naming.{passes-known}
 use Rattle.decoder.specs.declared.Decoded.the-variants.{Accepted, Refused}
 use Rattle.judging.specs.Judging.{countOf}
@@ -22,11 +24,9 @@ use Rattle.decoder.specs.Decoding.{judgement, decoded, decodeChecks, decodeAnsw
 use Rattle.voting.specs.Voting.{voted}
 use Rattle.results.specs.Results.{CountFits}
 
--- q is 2 or 4, so the reach is small
+-- the reach is at most n, which is small
 reach-small : (q u : ℕ) → Known q → reach q u < 2 ^ 63
-unfolding Known reach pointCount
-reach-small q u (inl two) = subst (λ (p : ℕ). reach p u < 2 ^ 63) (sym two) (omega arith)
-reach-small q u (inr four) = subst (λ (p : ℕ). reach p u < 2 ^ 63) (sym four) (omega arith)
+reach-small q u known = omega (arith, reach-most q u, count-small q known)
 
 -- a judgement accepts no count beyond the reach
 judged : (q u : ℕ) (message row : List ℕ) → reach q u < 2 ^ 63 → CountFits (judgement q u message row)

@@ -11,7 +11,7 @@ use Rattle.lists.specs.Tables.{from, tab, keep}
 use Rattle.refusals.proofs.Checks.{Passes, passed}
 use Rattle.symbols.specs.Rule.{isKnown, Known, anyBeyond}
 use Rattle.symbols.proofs.Bytes.{test-known}
-use Rattle.curve.specs.Codes.{pointCount, isCode, nongaps, dimension, reach}
+use Rattle.curve.specs.Codes.{pointCount, isCode, nongaps, dimension, distance, reach}
 use Rattle.published.specs.Start.{width}
 use Rattle.published.specs.Picture.{areaSize}
 use Rattle.decoder.specs.declared.Decoded.{Decoded}
@@ -38,7 +38,7 @@ dimension-is = refl
 
 -- "τ = 9"
 pub reach-is : reach tapeQ tapeU ≡ 9
-unfolding reach pointCount
+unfolding reach distance pointCount
 reach-is = refl
 
 -- q = 4 is known

@@ -8,7 +8,7 @@ use Rattle.algebra.specs.Interpolation.{unit, xPart, yPart}
 use Rattle.lists.specs.Tables.{from, tab, keep}
 use Rattle.symbols.specs.Rule.{size, reducedBy, sumOf, differenceOf, twice, chosen, product, powerOf, inverseOf, Below, into, symbols, isKnown, anyBeyond}
 use Rattle.curve.specs.Points.{onCurve, pair, points, pointAt}
-use Rattle.curve.specs.Codes.{pointCount, nongaps, dimension, reach, isCode}
+use Rattle.curve.specs.Codes.{pointCount, nongaps, dimension, distance, reach, isCode}
 use Rattle.curve.specs.Rows.{messageAt, rowOf}
 use Rattle.encoder.specs.Encoding.{rowNumbers}
 use Rattle.published.specs.Start.{width, startWeight, stepCount, coefficient, polynomial, polynomials, term, h, table, ofTable, vanishing, one, nothing, negated, startPart, start}
@@ -30,5 +30,5 @@ use Rattle.trace.specs.Trace.{lastLine, rowLines, traceChecks, answer, a
 use Rattle.trace.specs.Example.{exampleText, examplePrinted}
 
 pub example : traceText exampleText ≡ examplePrinted
-unfolding exampleText examplePrinted same power sum weight xPower yPower gap nongap shift timesX timesY timesYs timesMonomial monomialAt unit xPart yPart from tab keep size reducedBy sumOf differenceOf twice chosen product powerOf inverseOf Below into symbols isKnown anyBeyond onCurve pair points pointAt pointCount nongaps dimension reach isCode messageAt rowOf rowNumbers width startWeight stepCount coefficient polynomial polynomials term h table ofTable vanishing one nothing negated startPart start areaSize degree isNegative positivePart negativePart isVoted partnerOf kOf best degreeOf degreeF degreeG leadF leadG looked inVotedStep inUnvotedStep pairing score vote substitutedPart substituted raisedPart reducedPart replaced exchanged ratio changed noPair updated pairings step after messageOf stateAfter votesAfter differing countOf judgement voted decoded firstOf ascii lastDigits digits spaced line request endsNumber grown numbersFrom asByte sameList isTaken saidBy reading acceptLine voteText stepText voteAt degrees stepLine stepLines lastLine rowLines codeChecks symbolChecks traceChecks answer answerTo traceText
+unfolding exampleText examplePrinted same power sum weight xPower yPower gap nongap shift timesX timesY timesYs timesMonomial monomialAt unit xPart yPart from tab keep size reducedBy sumOf differenceOf twice chosen product powerOf inverseOf Below into symbols isKnown anyBeyond onCurve pair points pointAt pointCount nongaps dimension distance reach isCode messageAt rowOf rowNumbers width startWeight stepCount coefficient polynomial polynomials term h table ofTable vanishing one nothing negated startPart start areaSize degree isNegative positivePart negativePart isVoted partnerOf kOf best degreeOf degreeF degreeG leadF leadG looked inVotedStep inUnvotedStep pairing score vote substitutedPart substituted raisedPart reducedPart replaced exchanged ratio changed noPair updated pairings step after messageOf stateAfter votesAfter differing countOf judgement voted decoded firstOf ascii lastDigits digits spaced line request endsNumber grown numbersFrom asByte sameList isTaken saidBy reading acceptLine voteText stepText voteAt degrees stepLine stepLines lastLine rowLines codeChecks symbolChecks traceChecks answer answerTo traceText
 example = refl

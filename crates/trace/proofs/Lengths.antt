@@ -4,7 +4,7 @@ use mathlib.Core.Path.{_≡_, refl, subst, sym}
 use mathlib.Core.Logic.{⊎-elim}
 use mathlib.Core.Bool.{Bool, true, false}
 use mathlib.Core.List.{List, [], _∷_}
-use Prim.Native.Nat.{ℕ, suc, _*_, _-_, _/_, _≤_}
+use Prim.Native.Nat.{ℕ, suc, _*_, _-_, _≤_}
 use native.Mathlib.Nat.{mul-le-mul-right, le-max-left, le-max-right}
 use native.Mathlib.Omega.{arith}
 use borrow.Author.Tests.{leb-true}
@@ -18,6 +18,7 @@ use Rattle.refusals.proofs.Checks.{Refuses, Passes, refused, passed, decideChec
 use Rattle.symbols.specs.Rule.{Known, symbols}
 use Rattle.curve.specs.Codes.{pointCount, isCode, reach}
 use Rattle.curve.proofs.CodeLaws.{code-below, dimension-le}
+use Rattle.curve.proofs.Distances.{reach-most}
 use Rattle.published.specs.Start.{width, startWeight, stepCount}
 use Rattle.published.specs.Steps.{messageOf}
 use Rattle.steps.specs.Stop.{stateAfter, votesAfter}
@@ -77,8 +78,7 @@ length-last q u row code = by-test (leb (countOf q u (voted q u row) row) (reach
     by-test : (t : Bool) → leb count (reach q u) ≡ t
         → length (lastLine (elim t as (λ _. Decoded) [ true ↦ Accepted count | false ↦ Refused BeyondReach ]) (voted q u row)) ≤ lastSize q
     by-test true e =
-        let within : count ≤ (pointCount q - u - 1) / 2 = unfold reach in leb-true count (reach q u) e in
-        unfold lastLine in length-accepted q u count row code (omega arith)
+        unfold lastLine in length-accepted q u count row code (omega (arith, leb-true count (reach q u) e, reach-most q u))
     by-test false e = unfold lastLine in refuse-last q BeyondReach
 
 -- all lines of a row

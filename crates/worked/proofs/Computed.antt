@@ -8,7 +8,7 @@ use Rattle.algebra.specs.Interpolation.{unit, xPart, yPart}
 use Rattle.lists.specs.Tables.{from, tab, keep}
 use Rattle.symbols.specs.Rule.{size, reducedBy, sumOf, differenceOf, twice, chosen, product, powerOf, inverseOf, Below, into, symbols}
 use Rattle.curve.specs.Points.{onCurve, pair, points, pointAt}
-use Rattle.curve.specs.Codes.{pointCount, nongaps, dimension, reach}
+use Rattle.curve.specs.Codes.{pointCount, isCode, nongaps, dimension, distance, reach}
 use Rattle.curve.specs.Rows.{messageAt, rowOf}
 use Rattle.encoder.specs.Encoding.{rowNumbers}
 use Rattle.published.specs.Start.{width, startWeight, stepCount, coefficient, polynomial, polynomials, term, h, table, ofTable, vanishing, one, nothing, negated, startPart, start}
@@ -20,11 +20,12 @@ use Rattle.judging.specs.Judging.{differing, countOf}
 use Rattle.decoder.specs.Decoding.{judgement, decoded}
 use Rattle.voting.specs.Voting.{voted}
 use Rattle.worked.specs.Table.{Table, is, has, terms, pointNumbers, powers, polynomialAfter, pairOne}
+use Rattle.worked.specs.Reaches.{Reaches, reachesFrom, further}
 use Rattle.worked.specs.Stated.{Stated, product2, powerOf2, gaps, ordinates}
 
 -- opens all that the table computes with
 unfoldable computing : Unit {0}
-unfolding same power sum weight xPower yPower gap nongap shift timesX timesY timesYs timesMonomial monomialAt unit xPart yPart from tab keep size reducedBy sumOf differenceOf twice chosen product powerOf inverseOf Below into symbols onCurve pair points pointAt pointCount nongaps dimension reach messageAt rowOf rowNumbers width startWeight stepCount coefficient polynomial polynomials term h table ofTable vanishing one nothing negated startPart start degree isNegative positivePart negativePart isVoted partnerOf kOf best degreeOf degreeF degreeG leadF leadG looked inVotedStep inUnvotedStep pairing score vote substitutedPart substituted raisedPart reducedPart replaced exchanged ratio changed noPair updated pairings step after messageOf stateAfter votesAfter differing countOf judgement voted decoded is has terms pointNumbers powers polynomialAfter pairOne areaSize product2 powerOf2 gaps ordinates
+unfolding same power sum weight xPower yPower gap nongap shift timesX timesY timesYs timesMonomial monomialAt unit xPart yPart from tab keep size reducedBy sumOf differenceOf twice chosen product powerOf inverseOf Below into symbols onCurve pair points pointAt pointCount nongaps dimension distance reach messageAt rowOf rowNumbers width startWeight stepCount coefficient polynomial polynomials term h table ofTable vanishing one nothing negated startPart start degree isNegative positivePart negativePart isVoted partnerOf kOf best degreeOf degreeF degreeG leadF leadG looked inVotedStep inUnvotedStep pairing score vote substitutedPart substituted raisedPart reducedPart replaced exchanged ratio changed noPair updated pairings step after messageOf stateAfter votesAfter differing countOf judgement voted decoded is has terms pointNumbers powers polynomialAfter pairOne areaSize product2 powerOf2 gaps ordinates
 computing = tt
 
 pub worked : Table
@@ -84,3 +85,7 @@ stated =
       area-2 = refl;
       area-4 = refl;
     }
+
+pub reached : Reaches
+unfolding computing isCode reachesFrom further
+reached = record { two = refl; four-0 = refl; four-16 = refl; four-32 = refl; four-48 = refl; further-2 = refl; further-4 = refl }

@@ -81,9 +81,21 @@ impl Code {
         self.message_weights().len()
     }
 
+    /// The distance by proposition 14 of source 000, as it stands there: with u = aq + b, by b and a - (q² - q).
+    pub fn distance(&self) -> usize {
+        let (n, q, u) = (self.n() as i64, self.q() as i64, self.u as i64);
+        let (a, b) = (u / q, u % q);
+        let distance = if b <= a - (q * q - q) {
+            n - a * q
+        } else {
+            n - u
+        };
+        distance as usize
+    }
+
     /// τ, the largest number of differing places that is accepted.
     pub fn reach(&self) -> usize {
-        (self.n() - self.u - 1) / 2
+        (self.distance() - 1) / 2
     }
 
     /// The row of a message: its sum's value at each point.
@@ -168,6 +180,49 @@ mod tests {
         let small = Code::named(2, 4).unwrap();
         assert_eq!((small.n(), small.k(), small.reach()), (8, 4, 1));
         assert_eq!(small.message_weights(), [0, 2, 3, 4]);
+    }
+
+    #[test]
+    fn thin_codes_have_the_reach_of_wish_2() {
+        for (u, reach) in [(45, 9), (58, 3), (63, 1)] {
+            assert_eq!(Code::named(4, u).unwrap().reach(), reach, "u = {u}");
+        }
+    }
+
+    /// ν(s) for s = tq + r: what the votes for weight s bear.
+    fn margin(code: &Code, s: usize) -> i64 {
+        let (n, q, s) = (code.n() as i64, code.q() as i64, s as i64);
+        let (t, r) = (s / q, s % q);
+        n - s + r * (t - r + q + 1 - q * q).max(0)
+    }
+
+    #[test]
+    fn the_distance_is_the_least_margin_of_a_weight() {
+        for q in [2, 4] {
+            for code in (0..q * q * q).filter_map(|u| Code::named(q, u).ok()) {
+                let weights = code.message_weights();
+                let least = weights.iter().map(|&s| margin(&code, s)).min();
+                assert_eq!(least, Some(code.distance() as i64), "{code:?}");
+            }
+        }
+    }
+
+    /// The message of q = 2 whose symbols are the digits of a number.
+    fn message_numbered(code: &Code, number: usize) -> Vec<u8> {
+        let digit = |place: usize| (number >> (2 * place) & 3) as u8;
+        (0..code.k()).map(digit).collect()
+    }
+
+    #[test]
+    fn no_row_of_q_2_but_zero_has_fewer_symbols_than_the_distance() {
+        for u in 2..8 {
+            let code = Code::named(2, u).unwrap();
+            for number in 1..1 << (2 * code.k()) {
+                let row = code.encode(&message_numbered(&code, number));
+                let symbols = row.iter().filter(|&&symbol| symbol != 0).count();
+                assert!(symbols >= code.distance(), "u = {u}: {row:?}");
+            }
+        }
     }
 
     #[test]

@@ -47,7 +47,7 @@ dimension-requires : tie.Need-dimension-requires
 dimension-requires c κs = (test-known _ (known (c .before .before .before)), code-below _ _ (code (c .before)))
 
 reach-requires : tie.Need-reach-requires
-reach-requires c κs = test-known _ (known (c .before .before .before .before))
+reach-requires c κs = (test-known _ (known (c .before .before .before .before)), code-below _ _ (code (c .before .before)))
 
 returns-3 : tie.Need-returns-3
 unfolding named codeChecks
