@@ -1,4 +1,4 @@
-// Scores and the vote of a step: the symbol of largest score, the smallest number among equals.
+// Scores and the vote of a step: the first symbol whose score no other passes.
 use crate::pairs::Pair;
 ghost use mathlib.Core.Path.{_≡_};
 ghost use mathlib.Core.Bool.{false};
