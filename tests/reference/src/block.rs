@@ -2,7 +2,7 @@
 //! verifying, making, writing.
 //!
 //! The header has 8 bytes: 4 for the length of all that is behind these 4, then version, u, and 2
-//! for R; rows of 32 bytes follow. Numbers are big-endian; a byte's first symbol is its high four bits.
+//! for R; rows of 32 bytes follow. Numbers are big-endian; of a byte's symbols the high one is first.
 
 use crate::calls::decode;
 use crate::curve::Code;
