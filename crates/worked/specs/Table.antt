@@ -96,7 +96,7 @@ pub record Table : Type 0 where
   pub partner-at-9 : pairOne .partner ≡ 0
   pub k-at-9 : pairOne .k ≡ pos 6
   pub c-at-9 : pairOne .c ≡ negsuc 1
-  -- Same row after step 6: f_0 = xz, f_1 = yz
+  -- xz and yz for the f after step 6
   pub f0-after-6 : polynomialAfter 4 (f 2 0) ≡ terms (z·x^_y^_ 1 0 ∷ [])
   pub f1-after-6 : polynomialAfter 4 (f 2 1) ≡ terms (z·x^_y^_ 0 1 ∷ [])
   -- Weight 1, i = 0, A = 0: i' = 1, k = -1
