@@ -1,6 +1,6 @@
--- The work area on its way to the polynomials before the first step. Document 01, "The decoder's steps", its second paragraph: h is
--- summed up column by column, first over the y above an x and then over the x; g_0 and f_0 are put down, and the others are made of
--- them by powers of y.
+-- The work area on its way to the polynomials before the first step. Document 01, "The decoder's steps", its first two paragraphs: h
+-- is summed up first over the y above an x and then over the x; g_0 and f_0 are put down, and the others are made of them by powers
+-- of y.
 -- Assumes nothing.
 use mathlib.Core.Bool.{true, false}
 use mathlib.Core.List.{List}
