@@ -48,7 +48,7 @@ static void number_message_places(struct code *code)
     }
 }
 
-/* The distance of a code, with u = aq + b: q³ - aq if b ≤ a - (q² - q), else q³ - u. */
+/* The distance of a code, with u = aq + b: n - aq where b ≤ a - (q² - q), and n - u where not. */
 static size_t distance_of(size_t q, size_t u)
 {
     size_t a = u / q, b = u % q;

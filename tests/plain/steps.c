@@ -101,7 +101,7 @@ static struct pair pair_up(const struct code *code, uint8_t *work, size_t s, siz
     return pair;
 }
 
-/* The symbol of largest score, the smallest number among equals. */
+/* The first symbol whose score no other passes. */
 static uint8_t vote_of(const struct code *code, const struct pair *pairs)
 {
     int64_t scores[MOST_SYMBOLS] = {0};

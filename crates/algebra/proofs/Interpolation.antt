@@ -1,5 +1,5 @@
--- Interpolation on q² columns of q points each: the closed form takes the given values, and no other function with x-degree
--- below q² and y-degree below q does.
+-- Interpolation on q² columns of q points each: the closed form takes the given values, and no other function of its
+-- degrees does, below q² in x and below q in y.
 use mathlib.Core.Path.{_≡_, sym, ap, ap₂, _∙_}
 use mathlib.Core.Logic.{_≢_}
 use Prim.Native.Nat.{ℕ, suc, _+_, _*_, _-_, _<_}
@@ -182,7 +182,7 @@ module _ {𝓢 : Symbols} {q : ℕ} (𝓛 : Laws 𝓢 q) {X : ℕ → 𝓢 .K} {
           valueIn-def 𝓢 q q (row a) (Y a b) ∙ sum-cong 𝓢 q (λ j hj. mul-comm 𝓛 (row a j) (power 𝓢 (Y a b) j))
           ∙ sym (valueAt-def 𝓢 q (q * q) f (X a) (Y a b)) ∙ z a b ha hb
 
-  -- a function with x-degree below q² and y-degree below q is known by its values at the points
+  -- a function of degree below q² in x and below q in y is known by its values at the points
   pub interpolant-unique : (f g : Fn 𝓢 q)
       → ((a b : ℕ) → a < q * q → b < q → valueAt 𝓢 q (q * q) f (X a) (Y a b) ≡ valueAt 𝓢 q (q * q) g (X a) (Y a b))
       → (j i : ℕ) → j < q → i < q * q → f j i ≡ g j i

@@ -1,5 +1,5 @@
--- Functions on the curve y^q + y = x^(q+1): sums of x^i y^j with j < q, as coefficients by power of y and then of x, with
--- their products by x, by y and by monomials, and their values. Document 01, "Fields and curve".
+-- Functions on the curve y^q + y = x^(q+1): a polynomial in x for each power of y below q, as coefficients by power of y and then
+-- of x, with their products by x, by y and by monomials, and their values. Document 01, "Fields and curve".
 -- Assumes nothing.
 use mathlib.Core.Bool.{true, false}
 use Prim.Native.Nat.{ℕ, zero, suc, _+_, _-_}

@@ -1,6 +1,6 @@
 -- The two parts of the function that is one at a point (a, b) of the curve and zero at every other: a polynomial in x that
--- is one at a alone, and a polynomial in y that is, of the points above a, one at b alone. Document 01, "The decoder's
--- steps": h is "the one function with x-degree below q² and y-degree below q that takes the row's symbols at the points".
+-- is one at a alone, and a polynomial in y that is, of the points above a, one at b alone. h, in document 01's "The
+-- decoder's steps", is the sum over the points of both parts' product times the row's symbol.
 -- Assumes nothing.
 use mathlib.Core.Bool.{Bool, true, false}
 use Prim.Native.Nat.{ℕ, _*_, _-_}

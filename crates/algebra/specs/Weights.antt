@@ -1,5 +1,5 @@
--- Weights, gaps and monomials. Document 01, "Fields and curve": "The weight of x^i y^j is qi + (q+1)j. For a number s ≥ 0:
--- j is s mod q, i is (s - (q+1)j)/q; if i is negative, s is a gap, else x^i y^j is its monomial."
+-- Weights, gaps and monomials: what x^i y^j weighs, and for a number s the j and i whose monomial weighs s, where there are such.
+-- Document 01, "Fields and curve", in its paragraph on functions.
 -- Assumes nothing.
 use mathlib.Core.Bool.{Bool, not}
 use Prim.Native.Nat.{ℕ, _+_, _*_, _-_, _/_, _%_}

@@ -115,7 +115,7 @@ module _ {𝓢 : Symbols} {q : ℕ} (𝓛 : Laws 𝓢 q) where
         (monomial-value 𝓛 (yPower q (weightOf m)) (xPower q (weightOf m)) (q * q) x y
         (yPower-below q (weightOf m) positive) fits)
 
-    -- "Its row has at each point the value of the message's sum"
+    -- at a point its value is the row's symbol there
     pub function-value : u < q * (q * q) → (P : Point 𝓢 q)
         → valueAt 𝓢 q (q * q) (messageFunction 𝓢 q u message) (P .x) (P .y) ≡ messageAt 𝓢 q (nongaps q u) message P
     unfolding messageAt dimension

@@ -128,7 +128,7 @@ module _ (q : ℕ) where
           record { small = omega arith; passes = rw at t; ranked = rw at e }
       last l false t = absurd (omega (arith, rank-gap n t, rw (← add-one n) at h))
 
-  -- "k is the number of non-gaps from 0 to u"
+  -- k is the rank of what comes after u
   pub dimension-rank : (u : ℕ) → dimension q u ≡ rank q (u + 1)
   unfolding dimension nongaps rank
   dimension-rank u = refl

@@ -16,7 +16,7 @@ use Rattle.curve.specs.MessageFunction.{messageFunction}
 use Rattle.curve.proofs.Arranged.{Arranged}
 use Rattle.curve.proofs.MessageFunction.{function-value}
 
--- "n = q³", multiplied the other way
+-- n, multiplied the other way
 pub count-is : (q : ℕ) → pointCount q ≡ q * (q * q)
 unfolding pointCount
 count-is q = mul-assoc q q q

@@ -16,7 +16,7 @@ use Rattle.curve.specs.declared.Named.{Named}
 use Rattle.curve.specs.declared.Named.the-variants.{Code as Found, Refused}
 use Rattle.curve.specs.Codes.{pointCount, isCode, dimension, reach}
 
--- "if i is negative, s is a gap, else x^i y^j is its monomial"
+-- the powers of x and y of the monomial of s, if s is no gap
 unfoldable pub monomialOf : ℕ → ℕ → Monomial
 monomialOf q s = elim (gap q s) [ true ↦ Gap | false ↦ Powers (xPower q s) (yPower q s) ]
 

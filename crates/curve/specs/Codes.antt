@@ -9,11 +9,11 @@ use lib.ListN.{length}
 use Rattle.algebra.specs.Weights.{nongap}
 use Rattle.lists.specs.Tables.{tab, keep}
 
--- "It has n = q³ points"
+-- n, how many points there are
 unfoldable pub pointCount : ℕ → ℕ
 pointCount q = q * q * q
 
--- "u a non-gap from q to n-1"
+-- whether u names a code: from q to n - 1 and no gap
 unfoldable pub isCode : ℕ → ℕ → Bool
 isCode q u = leb q u && (ltb u (pointCount q) && nongap q u)
 
@@ -21,18 +21,18 @@ isCode q u = leb q u && (ltb u (pointCount q) && nongap q u)
 unfoldable pub nongaps : ℕ → ℕ → List ℕ
 nongaps q u = keep (nongap q) (tab (u + 1) (λ s. s))
 
--- "k is the number of non-gaps from 0 to u"
+-- k, how many there are
 unfoldable pub dimension : ℕ → ℕ → ℕ
 dimension q u = length (nongaps q u)
 
--- how far apart any two rows of a code are at least, with u = aq + b and b below q: q³ - aq if b ≤ a - (q² - q), else q³ - u
--- (source 000, proposition 14); the test has q² - q on the left, since a may be less than it
+-- the distance (source 000, proposition 14), with u = aq + b and b below q: n - aq where b ≤ a - (q² - q), and n - u where not; the
+-- test has q² - q on the left, since a may be less than that
 unfoldable pub distance : ℕ → ℕ → ℕ
 distance q u =
     let a = u / q in
     let b = u % q in
     cond (leb (b + (q * q - q)) a) (pointCount q - a * q) (pointCount q - u)
 
--- half of what is below the distance, rounded down
+-- τ, the reach: half of the distance less one, rounded down
 unfoldable pub reach : ℕ → ℕ → ℕ
 reach q u = (distance q u - 1) / 2

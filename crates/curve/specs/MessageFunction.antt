@@ -1,5 +1,5 @@
--- A message's sum as a function on the curve. Document 01, "Fields and curve": "Functions are sums of x^i y^j with j < q", "A
--- message has k symbols, by rising non-gap."
+-- A message's sum as a function on the curve: its symbols are the coefficients of the monomials of the non-gaps, from 0 upwards.
+-- Document 01, "Fields and curve", on functions and on messages.
 -- Assumes nothing.
 use mathlib.Core.Bool.{true, false}
 use mathlib.Core.List.{List}

@@ -1,5 +1,5 @@
--- The points from sets of ordinates. Document 01, "Fields and curve": "For q = 4 the points come from four sets of four ordinates:
--- x⁵ = 0: 0, 1, 6, 7; x⁵ = 1: 2, 3, 4, 5; x⁵ = 6: 10, 11, 12, 13; x⁵ = 7: 8, 9, 14, 15."
+-- The points from sets of ordinates. Document 01, "Fields and curve", gives the sets of q = 4: 0, 1, 6, 7 above an x with x⁵ = 0;
+-- 2, 3, 4, 5 above 1; 10, 11, 12, 13 above 6; 8, 9, 14, 15 above 7.
 -- Assumes nothing.
 use mathlib.Core.Bool.{cond}
 use mathlib.Core.List.{List, [], _∷_}

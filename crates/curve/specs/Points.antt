@@ -23,7 +23,7 @@ module _ (𝓢 : Symbols) (q : ℕ) where
   unfoldable pub pair : ℕ → Point
   pair m = record { x = symbol (m / (q * q)); y = symbol (m % (q * q)) }
 
-  -- "Order: x rising as a number, then y rising"
+  -- those of these pairs that are on the curve, in that order
   unfoldable pub points : List Point
   points = keep onCurve (tab (q * q * (q * q)) pair)
 

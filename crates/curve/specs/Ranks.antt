@@ -1,4 +1,4 @@
--- The place of a weight's symbol in a message. Document 01, "Fields and curve": "A message has k symbols, by rising non-gap."
+-- The place of a weight's symbol in a message, which has one for each non-gap, the lowest first. Document 01, "Fields and curve".
 -- Assumes nothing.
 use Prim.Native.Nat.{ℕ}
 use lib.ListN.{length}

@@ -1,5 +1,5 @@
--- What a message becomes. Document 01, "Fields and curve": "A message has k symbols, by rising non-gap. Its row has at each
--- point the value of the message's sum."
+-- What a message becomes: its symbols times the monomials of the non-gaps, from 0 upwards, add up to a function, and the row is
+-- that function's values at the points. Document 01, "Fields and curve", its last paragraph.
 -- Assumes nothing.
 use mathlib.Core.List.{List, map}
 use Prim.Native.Nat.{ℕ}

@@ -28,7 +28,7 @@ verdict : ℕ → Bool → Decoded
 verdict count b = elim b [ true ↦ Accepted count | false ↦ Refused BeyondReach ]
 
 module _ (q u : ℕ) (message row : List ℕ) where
-  -- "At most τ: accepted"
+  -- the judgement is the test of the count against the reach
   judged-by-reach : judgement q u message row ≡ verdict (countOf q u message row) (leb (countOf q u message row) (reach q u))
   unfolding judgement verdict
   judged-by-reach = refl

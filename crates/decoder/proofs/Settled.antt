@@ -15,7 +15,7 @@ pub decode-settled : (q u : ℕ) (row work message corrected : List ℕ) {answer
 decode-settled q u row work message corrected P P′ =
     (P .answer-is ∙ sym (P′ .answer-is), P .work-is ∙ sym (P′ .work-is), P .message-is ∙ sym (P′ .message-is), P .corrected-is ∙ sym (P′ .corrected-is))
 
--- "No answer depends on what a work or output area held before": only their lengths count
+-- what an area held before does not show in the answer: only their lengths count
 pub answer-by-lengths : (q u : ℕ) (row work work′ message message′ corrected corrected′ : List ℕ)
     → length work ≡ length work′ → length message ≡ length message′ → length corrected ≡ length corrected′
     → decodeAnswer q u row work message corrected ≡ decodeAnswer q u row work′ message′ corrected′

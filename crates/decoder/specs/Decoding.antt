@@ -17,7 +17,7 @@ use Rattle.decoder.specs.declared.Decoded.the-variants.{Accepted, Refuse
 use Rattle.judging.specs.Judging.{countOf}
 use Rattle.voting.specs.Voting.{voted, cleared}
 
--- "At most τ: accepted."
+-- accepted if the count is no more than the reach τ
 unfoldable pub judgement : ℕ → ℕ → List ℕ → List ℕ → Decoded
 judgement q u message row =
     elim (leb (countOf q u message row) (reach q u)) [
@@ -38,12 +38,12 @@ decodeChecks q u row work message corrected =
     ∷ (ShortOutput if ltb (length message) (dimension q u) || ltb (length corrected) (pointCount q))
     ∷ []))
 
--- "decoding answers accepted with the count"
+-- a refusal, or an acceptance and its count
 unfoldable pub decodeAnswer : ℕ → ℕ → List ℕ → List ℕ → List ℕ → List ℕ → Decoded
 decodeAnswer q u row work message corrected =
     firstOf (decodeChecks q u row work message corrected) Refused (decoded q u row)
 
--- "ends with its part of the work area all zero"; "8 leaves its part of the work area zero"
+-- once the votes are taken, the decoder's part of the work area is zero, with 8 too
 unfoldable pub decodeWork : ℕ → ℕ → List ℕ → List ℕ → List ℕ → List ℕ → List ℕ
 decodeWork q u row work message corrected =
     firstOf (decodeChecks q u row work message corrected) (λ why. work) (cleared (areaSize q) work)
@@ -53,12 +53,12 @@ unfoldable pub ifAccepted : Decoded → List ℕ → List ℕ → List ℕ
 ifAccepted (Accepted count) written old = written
 ifAccepted (Refused why) written old = old
 
--- "Decoding writes k message symbols"
+-- the first k places of the message's output
 unfoldable pub decodeMessage : ℕ → ℕ → List ℕ → List ℕ → List ℕ → List ℕ → List ℕ
 decodeMessage q u row work message corrected =
     ifAccepted (decodeAnswer q u row work message corrected) (voted q u row ++ drop (dimension q u) message) message
 
--- "and n corrected symbols"
+-- the first n places of the corrected row's output
 unfoldable pub decodeCorrected : ℕ → ℕ → List ℕ → List ℕ → List ℕ → List ℕ → List ℕ
 decodeCorrected q u row work message corrected =
     ifAccepted (decodeAnswer q u row work message corrected)

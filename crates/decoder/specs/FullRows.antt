@@ -16,11 +16,11 @@ pub record Room (q u : ℕ) (work message corrected : List ℕ) : Type 0 where
   pub for-message : dimension q u ≤ length message
   pub for-corrected : pointCount q ≤ length corrected
 
--- "Decoding writes k message symbols", if it accepts
+-- the message's output: k symbols, if the row is accepted
 unfoldable pub messageAfter : ℕ → ℕ → List ℕ → List ℕ → List ℕ
 messageAfter q u row message = ifAccepted (decoded q u row) (voted q u row ++ drop (dimension q u) message) message
 
--- "and n corrected symbols"
+-- the corrected row's output: n symbols, if it is accepted
 unfoldable pub correctedAfter : ℕ → ℕ → List ℕ → List ℕ → List ℕ
 correctedAfter q u row corrected =
     ifAccepted (decoded q u row) (rowNumbers q u (voted q u row) ++ drop (pointCount q) corrected) corrected

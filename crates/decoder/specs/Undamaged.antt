@@ -1,5 +1,5 @@
--- What decoding makes of a row that came undamaged. Demand 2: "An undamaged row always gives its message and count zero",
--- whatever the areas held before.
+-- What decoding makes of a row that came undamaged, as demand 2 asks: the message that was sent and count 0, whatever the areas
+-- held before.
 -- Assumes nothing.
 use mathlib.Core.Path.{_≡_}
 use mathlib.Core.List.{List}

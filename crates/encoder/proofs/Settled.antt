@@ -14,7 +14,7 @@ pub encode-settled : (q u : ℕ) (message output : List ℕ) {answer answer′ :
     → (answer ≡ answer′) × (output₁ ≡ output₂)
 encode-settled q u message output e f e′ f′ = (e ∙ sym e′, f ∙ sym f′)
 
--- "No answer depends on what a work or output area held before": only its length counts
+-- what an area held before does not show in the answer: only its length counts
 pub answer-by-length : (q u : ℕ) (message output output′ : List ℕ) → length output ≡ length output′
     → encodeAnswer q u message output ≡ encodeAnswer q u message output′
 unfolding encodeAnswer encodeChecks

@@ -22,11 +22,11 @@ unfoldable pub encodeChecks : ℕ → ℕ → List ℕ → List ℕ → List Che
 encodeChecks q u message output =
     codeChecks q u ++ (symbolChecks q (dimension q u) message ++ ((ShortOutput if ltb (length output) (pointCount q)) ∷ []))
 
--- "Encoding and the stop service answer only that they are done"
+-- a refusal, or done
 unfoldable pub encodeAnswer : ℕ → ℕ → List ℕ → List ℕ → Encoded
 encodeAnswer q u message output = firstOf (encodeChecks q u message output) Refused Done
 
--- "Encoding writes the row's n symbols"; "Places beyond these stay unchanged"; a refusal writes nothing
+-- the row in the first n places, the other places as they were; a refusal writes nothing
 unfoldable pub encodeOutput : ℕ → ℕ → List ℕ → List ℕ → List ℕ
 encodeOutput q u message output =
     firstOf (encodeChecks q u message output) (λ why. output) (rowNumbers q u message ++ drop (pointCount q) output)

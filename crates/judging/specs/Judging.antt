@@ -6,7 +6,7 @@ use Prim.Native.Nat.{ℕ, _+_}
 use lib.Dec.{eqb}
 use Rattle.encoder.specs.Encoding.{rowNumbers}
 
--- "The places that differ are the count."
+-- the count: in how many places two rows differ
 unfoldable pub differing : List ℕ → List ℕ → ℕ
 differing [] ys = 0
 differing (x ∷ xs) [] = 0

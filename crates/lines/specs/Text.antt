@@ -20,7 +20,7 @@ lastDigits zero n = []
 lastDigits (suc most) n =
     elim (ltb n 10) [ true ↦ (48 + n) ∷ [] | false ↦ lastDigits most (n / 10) ++ ((48 + n % 10) ∷ []) ]
 
--- "Numbers are decimal .. with no needless leading zero": all digits of n, the first one first; n + 1 of them are enough
+-- n in decimal, with no zero before it: all digits of n, the first one first; n + 1 of them are enough
 unfoldable pub digits : ℕ → List ℕ
 digits n = lastDigits (suc n) n
 

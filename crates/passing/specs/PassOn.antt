@@ -1,5 +1,5 @@
--- The row that is passed on. Document 01, "Lent areas": "The row passed on is the first n symbols of one of the two lent
--- rows: the corrected one if accepted, else the received one".
+-- The row that is passed on: n symbols from the start of the corrected row, or of the received row if it was not accepted.
+-- Document 01, "Lent areas", its second paragraph.
 -- Assumes nothing.
 use mathlib.Core.Bool.{Bool, true, false, cond, _&&_}
 use mathlib.Core.List.{List, []}
@@ -9,7 +9,7 @@ use lib.ListN.{length, take}
 use Rattle.symbols.specs.Rule.{isKnown}
 use Rattle.curve.specs.Codes.{pointCount}
 
--- "If q is unknown or that row is shorter than n, an empty part."
+-- nothing, if there is no such q or the row has fewer than n symbols
 unfoldable pub firstRow : ℕ → List ℕ → List ℕ
 firstRow q row = elim (isKnown q && leb (pointCount q) (length row)) [ true ↦ take (pointCount q) row | false ↦ [] ]
 

@@ -1,5 +1,5 @@
--- One pair of a step after the substitution: both updates fit the width, and where k is not negative, β, the coefficient of
--- x^k y^i' in the lower part of f_i, is μ_i(w - w_i). So w_i = w says that β is zero, and r = β/ν cancels it.
+-- One pair of a step after the substitution: both updates fit the width, and where k is not negative, β, which f_i then has
+-- at x^k y^i' in its lower part, is μ_i(w - w_i). So w_i = w says that β is zero, and r = β/ν cancels it.
 use mathlib.Core.Path.{_≡_, sym, ap, ap₂, _∙_}
 use mathlib.Core.Logic.{_≢_, inl, inr, ⊎-elim}
 use mathlib.Core.Bool.{true, false}

@@ -109,7 +109,7 @@ module _ {𝓢 : Symbols} {q : ℕ} (𝓛 : Laws 𝓢 q) where
       at = λ part b n hp hb. ap (λ (H : Parts 𝓢 q). H part b n) (sym (coefficient-cong 𝓢 q T S′ p p′ e));
     }
 
-    -- "w_i = w: no more change"
+    -- w_i = w: both stay
     rule-kept : same 𝓢 (P .w) w ≡ true → ((b n : ℕ) → b < q → weight q b n ≡ weight q i A + s → F lower b n ≡ 𝟘) → Made
     rule-kept t none =
         let same = changed-kept 𝓢 q w i P S′ t in
@@ -119,7 +119,7 @@ module _ {𝓢 : Symbols} {q : ℕ} (𝓛 : Laws 𝓢 q) where
           made = kept none (old (f q i) (f q i) (read (f q i) same)) (old (g q j) (g q j) (read (g q j) same));
         }
 
-    -- "w_i ≠ w, c > 0: new g_i' is f_i; new f_i is x^c f_i - r·g_i'"
+    -- w_i ≠ w, c > 0: f_i goes to g_i', and x^c f_i - r·g_i' takes its place
     rule-raised : j ≤ A + i + pair .t → same 𝓢 (P .w) w ≡ false → ltb 0 (positivePart (P .c)) ≡ true → Made
     unfolding raisedF
     rule-raised h m l =
@@ -139,7 +139,7 @@ module _ {𝓢 : Symbols} {q : ℕ} (𝓛 : Laws 𝓢 q) where
               (old (g q j) (f q i) new-g);
         }
 
-    -- "w_i ≠ w, c ≤ 0: new f_i is f_i - r·x^(-c)·g_i'"
+    -- w_i ≠ w, c ≤ 0: f_i - r·x^(-c)·g_i' takes the place of f_i
     rule-reduced : j ≤ A + i + pair .t → same 𝓢 (P .w) w ≡ false → ltb 0 (positivePart (P .c)) ≡ false → Made
     unfolding reducedF
     rule-reduced h m l =

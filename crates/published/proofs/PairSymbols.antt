@@ -65,7 +65,7 @@ module _ (𝓢 : Symbols) (q : ℕ) (u s : ℕ) where
     unfolding pairing inUnvotedStep looked isNegative positivePart
     w-unvoted v k e = ap₂ (λ t n. named t n .w) v e
 
-    -- "If k < 0, w_i = 0": no voted step has such a k
+    -- w_i = 0 where k is negative; no voted step has such a k
     pub w-negative : isVoted q u s ≡ false → isNegative (P .k) ≡ true → P .w ≡ 𝟘
     unfolding pairing inUnvotedStep
     w-negative v t =

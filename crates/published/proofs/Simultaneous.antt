@@ -58,18 +58,18 @@ module _ (𝓢 : Symbols) (q : ℕ) where
     unfoldable pub reducedF : Polynomials 𝓢 q → Polynomial 𝓢 q
     reducedF S = polynomial 𝓢 q (reducedPart 𝓢 q S i (P .partner) (negativePart (P .c)) (ratio 𝓢 q w P))
 
-    -- "w_i = w: no more change"
+    -- w_i = w: all stay
     pub changed-kept : (S : Polynomials 𝓢 q) → same 𝓢 (P .w) w ≡ true → changed 𝓢 q w i P S ≡ S
     unfolding changed
     changed-kept S e = rw (e, changed)
 
-    -- "w_i ≠ w, c > 0"
+    -- w_i ≠ w, c > 0: an exchange
     pub changed-raised : (S : Polynomials 𝓢 q) → same 𝓢 (P .w) w ≡ false → ltb 0 (positivePart (P .c)) ≡ true
         → changed 𝓢 q w i P S ≡ exchanged 𝓢 q i (P .partner) (raisedF S) S
     unfolding changed raisedF
     changed-raised S e l = rw (e, l, changed)
 
-    -- "w_i ≠ w, c ≤ 0"
+    -- w_i ≠ w, c ≤ 0: f_i alone
     pub changed-reduced : (S : Polynomials 𝓢 q) → same 𝓢 (P .w) w ≡ false → ltb 0 (positivePart (P .c)) ≡ false
         → changed 𝓢 q w i P S ≡ replaced 𝓢 q i (reducedF S) S
     unfolding changed reducedF

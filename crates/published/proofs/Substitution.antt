@@ -70,12 +70,12 @@ module _ {𝓢 : Symbols} {q : ℕ} (𝓛 : Laws 𝓢 q) (s : ℕ) (w : 𝓢 .K)
   unchanged-parts e p (suc zero) j k hp = unchanged e p j k ∙ rule-lower p j k
   unchanged-parts e p (suc (suc part)) j k hp = absurd (omega arith)
 
-  -- "no change if w = 0"
+  -- with w = 0 nothing is replaced
   substituted-none : eqb (number w) 0 ≡ true → S′ ≡ S
   unfolding substituted
   substituted-none t = rw (t, substituted)
 
-  -- "in all 2q polynomials"
+  -- with any other w the rule goes through all polynomials
   substituted-all : eqb (number w) 0 ≡ false → S′ ≡ polynomials 𝓢 q (substitutedPart 𝓢 q s w S)
   unfolding substituted
   substituted-all t = rw (t, substituted)

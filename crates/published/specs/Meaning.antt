@@ -25,7 +25,7 @@ use Rattle.published.specs.Steps.{substitutedPart, substituted, raisedPa
 use Rattle.published.specs.Steps.{updated, pairings, after}
 use Rattle.published.specs.Picture.{place}
 
--- "After t steps the weight in force is the start weight less t (so -1 at the end)"
+-- the weight in force after t steps: each takes 1 off the start weight, and the last leaves -1
 unfoldable pub weightAfter : ℕ → ℕ → ℤ
 weightAfter q t = subℕ (startWeight q) t
 
@@ -43,7 +43,7 @@ inUpper j i = record { part = upper; y = j; x = i }
 abbrev pub inLower : ℕ → ℕ → PartMonomial
 inLower j i = record { part = lower; y = j; x = i }
 
--- "Under weight s an upper monomial weighs s more"
+-- what a monomial weighs under s: s is added in the upper part
 unfoldable pub weighs : ℕ → ℤ → PartMonomial → ℤ
 weighs q s m =
     elim (eqb (m .part) upper) [
@@ -51,7 +51,7 @@ weighs q s m =
       | false ↦ pos (weight q (m .y) (m .x))
     ]
 
--- m is smaller than n: it weighs less, or as much, and "equal weights go to the upper one"
+-- m is smaller than n: it weighs less, or as much, and n is the one in the upper part
 unfoldable pub Smaller : ℕ → ℤ → PartMonomial → PartMonomial → Type 0
 Smaller q s m n = (weighs q s m <ℤ weighs q s n) ⊎ ((weighs q s m ≡ weighs q s n) × (m .part ≡ lower) × (n .part ≡ upper))
 
@@ -114,7 +114,7 @@ module _ (𝓢 : Symbols) (q : ℕ) where
   pub record Meaning (u : ℕ) (row : List ℕ) (t : ℕ) (votes work : List ℕ) : Type 0 where
     -- each of the 2q polynomials is zero at every curve point paired with the received symbol less what the votes give there
     pub zeros : (p m : ℕ) → p < 2 * q → m < pointCount q → valueWith work p (pointAt 𝓢 q m) (unexplained u row votes m) ≡ 𝟘
-    -- "The leading term of g_i is then in the lower part at y^i, that of f_i in the upper part at y^i"
+    -- g_i leads with a lower monomial, f_i with an upper one, both at y^i
     pub degreeG : ℕ → ℕ
     pub degreeF : ℕ → ℕ
     pub leadingG : (i : ℕ) → i < q → Leading (weightAfter q t) (partIn work (g q i)) (inLower i (degreeG i))

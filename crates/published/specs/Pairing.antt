@@ -1,5 +1,5 @@
--- The numbers of a step. Document 01, "The decoder's steps": "At step s, for each i, with A the degree of the y^i polynomial
--- in the upper part of f_i": i', k, c, b, w_i, μ_i and ν; the scores and the vote.
+-- The numbers that step s works with, for each i. Document 01, "The decoder's steps": A, i', k, D, c, b, w_i, μ_i and ν; the scores
+-- and the vote. w_i has source 000's minus, which document 01 drops, minus being plus there.
 -- Assumes nothing.
 use mathlib.Core.Bool.{Bool, true, false, cond, _&&_}
 use mathlib.Core.List.{List, [], _∷_}
@@ -15,7 +15,7 @@ unfoldable pub degree : (ℕ → ℕ) → ℕ → ℕ
 degree a zero = 0
 degree a (suc n) = elim (eqb (a n) 0) [ true ↦ degree a n | false ↦ n ]
 
--- "k and c may be negative; their signs are part of the rule"
+-- k and c are integers; no sign is lost
 unfoldable pub isNegative : ℤ → Bool
 isNegative (pos n) = false
 isNegative (negsuc n) = true
@@ -30,7 +30,7 @@ unfoldable pub negativePart : ℤ → ℕ
 negativePart (pos n) = 0
 negativePart (negsuc n) = suc n
 
--- neither "s > u" nor "s is a gap"
+-- s is at most u, and no gap
 unfoldable pub isVoted : ℕ → ℕ → ℕ → Bool
 isVoted q u s = leb s u && nongap q s
 
@@ -41,7 +41,7 @@ partnerOf q total = total % q
 unfoldable pub kOf : ℕ → ℕ → ℤ
 kOf q total = subℕ (total / q) (total % q)
 
--- the symbol from 0 to n of largest score, "the smallest number among equals (0 if all scores are 0)"
+-- of the symbols from 0 to n the lowest one that no other's score passes; so 0 where every score is 0
 unfoldable pub best : (ℕ → ℕ) → ℕ → ℕ
 best score zero = 0
 best score (suc n) = let m = best score n in cond (ltb (score m) (score (suc n))) (suc n) m
@@ -76,7 +76,7 @@ module _ (𝓢 : Symbols) (q : ℕ) where
     pub μ : K
     pub ν : K
 
-  -- "Let b be the coefficient of x^k y^i' in the lower part of f_i"
+  -- b: what f_i has below at x^k y^i'
   unfoldable pub looked : Polynomials 𝓢 q → ℕ → ℕ → ℤ → K
   looked S i partner k = coefficient 𝓢 q S (f q i) lower partner (positivePart k)
 
@@ -85,7 +85,7 @@ module _ (𝓢 : Symbols) (q : ℕ) where
     pub w : K
     pub μ : K
 
-  -- voted: μ_i is the leading coefficient of f_i, w_i = -b/μ_i; "If k < 0, w_i = 0 and μ_i = 1"
+  -- voted: μ_i is f_i's leading coefficient and w_i = -b/μ_i; where k < 0 they are 1 and 0
   unfoldable pub inVotedStep : ℤ → K → K → Naming
   inVotedStep k b lead =
       record {
@@ -93,11 +93,11 @@ module _ (𝓢 : Symbols) (q : ℕ) where
         μ = cond (isNegative k) 𝟙 lead;
       }
 
-  -- unvoted: w_i = -b, μ_i = 1; "If k < 0, w_i = 0 and μ_i = 1"
+  -- unvoted: μ_i = 1 and w_i = -b; where k < 0 they are 1 and 0
   unfoldable pub inUnvotedStep : ℤ → K → Naming
   inUnvotedStep k b = record { w = cond (isNegative k) 𝟘 (minus b); μ = 𝟙 }
 
-  -- "for each i": its numbers at step s
+  -- the numbers of i at step s
   unfoldable pub pairing : ℕ → ℕ → Polynomials 𝓢 q → ℕ → Pairing
   pairing u s S i =
       let total = q * degreeF S i + (q + 1) * i + s in
@@ -114,11 +114,11 @@ module _ (𝓢 : Symbols) (q : ℕ) where
         ν = leadG S partner;
       }
 
-  -- "each symbol's score is the sum of max(c, 0) over the i whose w_i is that symbol"
+  -- the score of the symbol a: max(c, 0) of every pair with w_i = a, added up
   unfoldable pub score : List Pairing → ℕ → ℕ
   score [] a = 0
   score (P ∷ Ps) a = cond (eqb (number (P .w)) a) (positivePart (P .c)) 0 + score Ps a
 
-  -- "vote w = 0" in the unvoted steps
+  -- w: in a voted step the best symbol, else 0
   unfoldable pub vote : ℕ → ℕ → List Pairing → K
   vote u s Ps = cond (isVoted q u s) (symbol (best (score Ps) (q * q - 1))) 𝟘

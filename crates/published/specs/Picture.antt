@@ -1,5 +1,5 @@
--- The picture of the polynomials in the lent work area. Document 01, "Lent areas": "Layout: g_0.., then f_0..; in each the q
--- upper polynomials by y, then the q lower; in each the coefficients of x^0 to x^(q²+2q-2)."
+-- The picture of the polynomials in the lent work area: the g_i before the f_i; of each polynomial the q rows of the upper part, by
+-- power of y, before those of the lower part; of each row q²+2q-1 coefficients, that of x^0 first. Document 01, "Lent areas".
 -- Assumes nothing.
 use mathlib.Core.List.{List}
 use Prim.Native.Nat.{ℕ, _+_, _*_, _/_, _%_}
@@ -7,7 +7,7 @@ use Rattle.algebra.specs.Symbols.{Symbols}
 use Rattle.lists.specs.Tables.{tab, join}
 use Rattle.published.specs.Start.{Polynomials, coefficient, width}
 
--- "The work area needs 4q²(q²+2q-1) symbols"
+-- 4q²(q²+2q-1) places: 2q polynomials of 2q rows each
 unfoldable pub areaSize : ℕ → ℕ
 areaSize q = 4 * (q * q) * width q
 

@@ -1,5 +1,5 @@
 -- The polynomials before the first step. Document 01, "The decoder's steps" and "Lent areas": h, the start, the start weight,
--- and how 2q polynomials are held: an upper part (times z) and a lower part each, by power of y and then of x.
+-- and how 2q polynomials are held: each by its parts, of which z multiplies the upper one, by power of y and then of x.
 -- Assumes nothing.
 use mathlib.Core.Bool.{true, false, _&&_}
 use mathlib.Core.List.{List, []}
@@ -13,15 +13,15 @@ use Rattle.lists.specs.Tables.{tab}
 use Rattle.curve.specs.Points.{pointAt}
 use Rattle.curve.specs.Codes.{pointCount}
 
--- "the coefficients of x^0 to x^(q²+2q-2)": how many there are
+-- how many powers of x a row has places for: x^0 to x^(q²+2q-2)
 unfoldable pub width : ℕ → ℕ
 width q = q * q + 2 * q - 1
 
--- "The start weight is always q³+q²-q-1"
+-- the start weight, the same for every row
 unfoldable pub startWeight : ℕ → ℕ
 startWeight q = q * q * q + q * q - q - 1
 
--- "One step for each s down to 0"
+-- a step for each weight from that one to 0
 unfoldable pub stepCount : ℕ → ℕ
 stepCount q = startWeight q + 1
 
@@ -32,7 +32,7 @@ upper = 0
 abbrev pub lower : ℕ
 lower = 1
 
--- the places of g_i and f_i among the 2q polynomials: "g_0.., then f_0.."
+-- the places of g_i and f_i among the 2q polynomials
 abbrev pub g : ℕ → ℕ → ℕ
 g q i = i
 
@@ -68,7 +68,7 @@ module _ (𝓢 : Symbols) (q : ℕ) where
   unfoldable pub term : List K → ℕ → ℕ → ℕ → K
   term row j i m = getD row m 𝟘 ⊗ (xPart 𝓢 q (pointAt 𝓢 q m .x) i ⊗ yPart 𝓢 q (pointAt 𝓢 q m .y) j)
 
-  -- "the one function with x-degree below q² and y-degree below q that takes the row's symbols at the points"
+  -- h: its powers of x are below q², those of y below q, and its values at the points are the row's symbols
   unfoldable pub h : List K → Fn 𝓢 q
   h row j i = elim (ltb i (q * q)) [ true ↦ sum 𝓢 (pointCount q) (term row j i) | false ↦ 𝟘 ]
 
@@ -93,7 +93,7 @@ module _ (𝓢 : Symbols) (q : ℕ) where
   unfoldable pub negated : Fn 𝓢 q → Fn 𝓢 q
   negated F j i = minus (F j i)
 
-  -- "g_i = y^i(x^(q²) - x), f_i = y^i(z - h)"
+  -- polynomial p is y^i(x^(q²) - x) if it is g_i, and y^i(z - h) if it is f_i
   unfoldable pub startPart : List (List K) → ℕ → ℕ → Fn 𝓢 q
   startPart h p part =
       elim (ltb p q) [

@@ -1,5 +1,5 @@
 -- What a step does, and the state after t steps. Document 01, "The decoder's steps": the substitution in all 2q polynomials,
--- the update of each pair, the votes.
+-- the update of each pair, the votes. Minus stands where source 000 has it; document 01 drops it, minus being plus there.
 -- Assumes nothing.
 use mathlib.Core.Bool.{true, false}
 use mathlib.Core.List.{List, [], map}
@@ -19,22 +19,22 @@ module _ (𝓢 : Symbols) (q : ℕ) where
   infixl 70 _⊗_
   open Symbols 𝓢 using (K, 𝟘, _⊕_, _⊖_, _⊗_, inverse, number)
 
-  -- "z becomes z + w·(monomial of s)": w times the monomial times the upper part goes to the lower one
+  -- w times the monomial of s is added to z: that, times the upper part, goes to the lower one
   unfoldable pub substitutedPart : ℕ → K → Polynomials 𝓢 q → ℕ → ℕ → Fn 𝓢 q
   substitutedPart s w S p zero j i = coefficient 𝓢 q S p upper j i
   substitutedPart s w S p (suc part) j i =
       coefficient 𝓢 q S p lower j i ⊕ w ⊗ timesMonomial 𝓢 q s (coefficient 𝓢 q S p upper) j i
 
-  -- "in all 2q polynomials (no change if w = 0)"
+  -- so it is done to all 2q polynomials, unless w = 0
   unfoldable pub substituted : ℕ → K → Polynomials 𝓢 q → Polynomials 𝓢 q
   substituted s w S = elim (eqb (number w) 0) [ true ↦ S | false ↦ polynomials 𝓢 q (substitutedPart s w S) ]
 
-  -- "x^c f_i - r·g_i'"
+  -- x^c f_i - r·g_i'
   unfoldable pub raisedPart : Polynomials 𝓢 q → ℕ → ℕ → ℕ → K → ℕ → Fn 𝓢 q
   raisedPart S i partner c r part j n =
       timesX 𝓢 q c (coefficient 𝓢 q S (f q i) part) j n ⊖ r ⊗ coefficient 𝓢 q S (g q partner) part j n
 
-  -- "f_i - r·x^(-c)·g_i'"
+  -- f_i - r·x^(-c)·g_i', where this c is -c
   unfoldable pub reducedPart : Polynomials 𝓢 q → ℕ → ℕ → ℕ → K → ℕ → Fn 𝓢 q
   reducedPart S i partner c r part j n =
       coefficient 𝓢 q S (f q i) part j n ⊖ r ⊗ timesX 𝓢 q c (coefficient 𝓢 q S (g q partner) part) j n
@@ -43,7 +43,7 @@ module _ (𝓢 : Symbols) (q : ℕ) where
   unfoldable pub replaced : ℕ → Polynomial 𝓢 q → Polynomials 𝓢 q → Polynomials 𝓢 q
   replaced i new S = tab (2 * q) (λ p. elim (eqb p (f q i)) [ true ↦ new | false ↦ getD S p [] ])
 
-  -- new f_i, and "new g_i' is f_i"
+  -- new f_i, and the old f_i in the place of g_i'
   unfoldable pub exchanged : ℕ → ℕ → Polynomial 𝓢 q → Polynomials 𝓢 q → Polynomials 𝓢 q
   exchanged i partner new S =
       tab (2 * q) (λ p. elim (eqb p (f q i)) [
@@ -51,11 +51,11 @@ module _ (𝓢 : Symbols) (q : ℕ) where
         | false ↦ elim (eqb p (g q partner)) [ true ↦ getD S (f q i) [] | false ↦ getD S p [] ]
       ])
 
-  -- "r = μ_i(w - w_i)/ν"
+  -- r = μ_i(w - w_i)/ν
   unfoldable pub ratio : K → Pairing 𝓢 q → K
   ratio w P = P .μ ⊗ (w ⊖ P .w) ⊗ inverse (P .ν)
 
-  -- "w_i = w: no more change"; "w_i ≠ w, c > 0"; "w_i ≠ w, c ≤ 0"
+  -- the three cases: nothing if w_i = w; otherwise an exchange if c > 0, and a new f_i alone if c ≤ 0
   unfoldable pub changed : K → ℕ → Pairing 𝓢 q → Polynomials 𝓢 q → Polynomials 𝓢 q
   changed w i P S =
       elim (same 𝓢 (P .w) w) [
@@ -70,7 +70,7 @@ module _ (𝓢 : Symbols) (q : ℕ) where
   unfoldable pub noPair : Pairing 𝓢 q
   noPair = record { partner = 0; k = pos 0; c = pos 0; w = 𝟘; μ = 𝟘; ν = 𝟘 }
 
-  -- "for each i": those below n. No two i have a polynomial in common, so the order does not matter
+  -- the i below n, one after the other. No two i have a polynomial in common, so the order does not matter
   unfoldable pub updated : K → List (Pairing 𝓢 q) → Polynomials 𝓢 q → ℕ → Polynomials 𝓢 q
   updated w Ps S zero = S
   updated w Ps S (suc n) = changed w n (getD Ps n noPair) (updated w Ps S n)
@@ -96,6 +96,6 @@ module _ (𝓢 : Symbols) (q : ℕ) where
   after u row zero = record { polys = start 𝓢 q row; votes = replicate (stepCount q) 𝟘 }
   after u row (suc t) = step u (startWeight q - t) (after u row t)
 
-  -- the votes "by rising non-gap": "w is the message symbol for s"
+  -- the message: the votes at the non-gaps up to u, the lowest first
   unfoldable pub messageOf : ℕ → List K → List K
   messageOf u votes = map (λ s. getD votes s 𝟘) (nongaps q u)

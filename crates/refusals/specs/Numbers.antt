@@ -29,8 +29,8 @@ infix 20 _if_
 abbrev pub _if_ : Refusal → Bool → Check
 why if holds = record { holds = holds; why = why }
 
--- "Checked in this order as far as a call has the thing": a call lists its checks in the order of their numbers (verifying
--- a block has an order of its own). "The first that holds is given": what `refuse` makes of it; where none holds, `otherwise`
+-- a call lists the checks that it can make in the order of their numbers (verifying a block has an order of its own); the answer is
+-- what `refuse` makes of the first check that holds, and `otherwise` where none does
 unfoldable pub firstOf {ℓ} : {A : Type ℓ} → List Check → (Refusal → A) → A → A
 firstOf [] refuse otherwise = otherwise
 firstOf (c ∷ cs) refuse otherwise = elim (c .holds) [ true ↦ refuse (c .why) | false ↦ firstOf cs refuse otherwise ]

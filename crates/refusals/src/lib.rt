@@ -5,13 +5,13 @@ ghost use Rattle.refusals.specs.Numbers.{refusalNumber};
 pub enum Refusal {
     // 1: q is not 2 or 4
     UnknownQ,
-    // 2: u is a gap, below q, or n or more
+    // 2: u is not from q to n - 1, or it is a gap
     NoCode,
-    // 3: more steps asked than there are
+    // 3: the decoder has not so many steps
     TooManySteps,
-    // 4: row not n long, or message not k long
+    // 4: another length than n for a row, k for a message
     WrongLength,
-    // 5: a symbol is q² or more
+    // 5: a number from q² on where a symbol is due
     NoSymbol,
     // 6: work area too short
     ShortWork,

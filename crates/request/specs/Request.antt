@@ -1,5 +1,5 @@
--- The texts that rowtrace takes, and what they say. Document 01: "The program rowtrace reads from standard input a line "q u"
--- and a line with the row: at least one number, single spaces, each line ended by a newline."
+-- The texts that rowtrace takes, and what they say: q and u on one line, a row on the next. Document 01, the paragraph on rowtrace
+-- in "Hand-worked table".
 -- Assumes nothing.
 use mathlib.Core.Path.{_≡_}
 use mathlib.Core.Bool.{Bool, true, false, _&&_, _||_}
@@ -15,21 +15,21 @@ unfoldable pub line : List ℕ → List ℕ
 line [] = 10 ∷ []
 line (n ∷ numbers) = digits n ++ (spaced numbers ++ (10 ∷ []))
 
--- "a line "q u" and a line with the row"
+-- the two lines of a request
 unfoldable pub request : ℕ → ℕ → List ℕ → List ℕ
 request q u row = line (q ∷ u ∷ []) ++ line row
 
 -- a text is taken, as q, u and a row
 pub record Taken (text : List ℕ) (q u : ℕ) (row : List ℕ) : Type 0 where
   pub says : text ≡ request q u row
-  -- "at least one number"
+  -- the row is not empty
   pub some : 0 < length row
-  -- "Numbers are decimal, one to three digits with no needless leading zero"
+  -- no number has more than three digits; `request` writes none with a zero before it
   pub short-q : q ≤ 999
   pub short-u : u ≤ 999
-  -- "row numbers at most 255"
+  -- the row's numbers are bytes
   pub bytes : (i : ℕ) → getD row i 0 ≤ 255
-  -- "the text is at most 4,096 bytes"
+  -- how long a text may be
   pub short : length text ≤ 4096
 
 -- what a text says: q, u and a row, or nothing that is taken
@@ -37,7 +37,7 @@ pub data Said : Type 0 where
   asks : ℕ → ℕ → List ℕ → Said
   nothing : Said
 
--- a text says what it is taken as: "Any other text" says nothing
+-- a text says what it is taken as, and nothing if it is not taken
 pub record Means (text : List ℕ) (said : Said) : Type 0 where
   pub taken : (q u : ℕ) (row : List ℕ) → said ≡ asks q u row → Taken text q u row
   pub only : (q u : ℕ) (row : List ℕ) → Taken text q u row → said ≡ asks q u row

@@ -19,7 +19,7 @@ use Rattle.block.specs.declared.Written.the-variants.{Length, Refused as Unwrit
 abbrev pub refusalResult : Refusal → ℤ
 refusalResult why = negℤ (pos (refusalNumber why))
 
--- encoding and the stop service answer only that they are done
+-- encoding and stopping have nothing to tell but that it was done: 0
 abbrev pub encodeResult : Encoded → ℤ
 encodeResult Done = pos 0
 encodeResult (Refused why) = refusalResult why

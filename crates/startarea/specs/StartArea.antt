@@ -1,6 +1,6 @@
--- The work area on its way to the polynomials before the first step. Document 01, "The decoder's steps": "h is the one function
--- with x-degree below q² and y-degree below q that takes the row's symbols at the points", "g_i = y^i(x^(q²) - x)" and
--- "f_i = y^i(z - h)".
+-- The work area on its way to the polynomials before the first step. Document 01, "The decoder's steps", its first two paragraphs: h
+-- is summed up first over the y above an x and then over the x; g_0 and f_0 are put down, and the others are made of them by powers
+-- of y.
 -- Assumes nothing.
 use mathlib.Core.Bool.{true, false}
 use mathlib.Core.List.{List}

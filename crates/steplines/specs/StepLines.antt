@@ -1,5 +1,5 @@
--- The line of a step and the lines of all steps. Document 01: "Each step line: s, the vote (- if none), leading degrees of f by
--- i, then of g, after the step."
+-- The line of a step, from the state that the step leaves, and the lines of all steps. Document 01, the end of "Hand-worked
+-- table".
 -- Assumes nothing.
 use mathlib.Core.List.{List, [], _++_}
 use Prim.Native.Nat.{ℕ, zero, suc, _+_, _*_, _-_}
@@ -17,11 +17,11 @@ use Rattle.steps.specs.Stop.{stateAfter}
 unfoldable pub voteAt : (q : ℕ) → ℕ → State (symbols q) q → ℕ
 voteAt q s state = number q (getD (state .votes) s (symbol q 0))
 
--- "leading degrees of f by i, then of g"
+-- those of f_0, f_1, .. and then those of g_0, g_1, ..
 unfoldable pub degrees : (q : ℕ) → Polynomials (symbols q) q → List ℕ
 degrees q S = tab q (degreeF (symbols q) q S) ++ tab q (degreeG (symbols q) q S)
 
--- the line of step s, "after the step"
+-- the line of step s, given the state after it
 unfoldable pub stepLine : (q : ℕ) → ℕ → ℕ → State (symbols q) q → List ℕ
 stepLine q u s state = stepText s (isVoted q u s) (voteAt q s state) (degrees q (state .polys))
 

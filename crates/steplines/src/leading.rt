@@ -21,7 +21,7 @@ fn leader(q: usize, r: usize) -> usize
     if r < q { q + r } else { r - q }
 }
 
-// The leading degrees of f by i, then of g, in the first 2q places.
+// The leading degrees, those of the f before those of the g, in the first 2q places.
 pub fn read_degrees(work: &[u8], q: usize, degrees: &mut [u8])
     requires { ⌜ Area q (length (now work)) ⌝ }
     requires { ⌜ 2 * q ≤ length (now degrees) ⌝ }

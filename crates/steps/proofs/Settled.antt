@@ -20,7 +20,7 @@ pub stop-settled : (q u steps : ℕ) (row work output : List ℕ) {answer answer
 stop-settled q u steps row work output P P′ =
     (P .answer-is ∙ sym (P′ .answer-is), P .work-is ∙ sym (P′ .work-is), P .output-is ∙ sym (P′ .output-is))
 
--- "No answer depends on what a work or output area held before": only their lengths count
+-- what an area held before does not show in the answer: only their lengths count
 pub answer-by-lengths : (q u steps : ℕ) (row work work′ output output′ : List ℕ)
     → length work ≡ length work′ → length output ≡ length output′
     → stopAnswer q u steps row work output ≡ stopAnswer q u steps row work′ output′

@@ -10,7 +10,7 @@ use Rattle.workarea.specs.Area.{cellsOf}
 use Rattle.workarea.specs.Heights.{WithinHeights}
 use Rattle.steps.specs.Stop.{stateAfter, pictureAfter}
 
--- "vote w" of the step after t steps, as a number; that step is at the start weight less t
+-- w of the step after t steps, as a number; that step is at the start weight less t
 unfoldable pub voteAfter : ℕ → ℕ → List ℕ → ℕ → ℕ
 voteAfter q u row t = number q (voteOn (symbols q) q u (startWeight q - t) (stateAfter q u row t .polys))
 

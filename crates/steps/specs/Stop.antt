@@ -23,7 +23,7 @@ stateAfter q u row t = after (symbols q) q u (map (symbol q) row) t
 unfoldable pub pictureAfter : ℕ → ℕ → List ℕ → ℕ → List ℕ
 pictureAfter q u row t = picture (symbols q) q (stateAfter q u row t .polys)
 
--- its votes as a message's numbers, "0 where not yet voted"
+-- its votes as a message's numbers; those to come are 0
 unfoldable pub votesAfter : ℕ → ℕ → List ℕ → ℕ → List ℕ
 votesAfter q u row t = map (number q) (messageOf (symbols q) q u (stateAfter q u row t .votes))
 
@@ -38,12 +38,12 @@ stopChecks q u steps row work output =
 unfoldable pub stopAnswer : ℕ → ℕ → ℕ → List ℕ → List ℕ → List ℕ → Stopped
 stopAnswer q u steps row work output = firstOf (stopChecks q u steps row work output) Refused Done
 
--- "The stop service leaves this picture"
+-- the picture, and the places behind it as they were; a refusal writes nothing
 unfoldable pub stopWork : ℕ → ℕ → ℕ → List ℕ → List ℕ → List ℕ → List ℕ
 stopWork q u steps row work output =
     firstOf (stopChecks q u steps row work output) (λ why. work) (pictureAfter q u row steps ++ drop (areaSize q) work)
 
--- "and puts the votes (0 where not yet voted) in the first k places of the output"
+-- the k votes, and the places behind them as they were; a refusal writes nothing
 unfoldable pub stopOutput : ℕ → ℕ → ℕ → List ℕ → List ℕ → List ℕ → List ℕ
 stopOutput q u steps row work output =
     firstOf (stopChecks q u steps row work output) (λ why. output) (votesAfter q u row steps ++ drop (dimension q u) output)

@@ -1,5 +1,5 @@
--- Where the votes stand in the output. Document 01, "Lent areas": "puts the votes (0 where not yet voted) in the first k places
--- of the output", a message's symbols being "by rising non-gap".
+-- Where the votes stand in the output: each in its non-gap's place among the non-gaps, though the highest is voted first.
+-- Document 01, "Lent areas", on the stop service.
 -- Assumes nothing.
 use mathlib.Core.Bool.{true, false}
 use mathlib.Core.List.{List}

@@ -43,7 +43,7 @@ fn quotient_of(q: usize, total: usize) -> i64
     }
 }
 
-// b, the coefficient of x^k y^i' in the lower part of f_i, for a k that is not negative.
+// b, which f_i has at x^k y^i' in its lower part, for a k that is not negative.
 fn looked_at(work: &[u8], q: usize, i: usize, partner: usize, k: i64) -> u8
     requires { ⌜ Area q (length (now work)) ⌝ }
     requires { ⌜ (i < q) × (partner < q) × (natAbs k ≤ 1000) × (isNegative k ≡ false) ⌝ }

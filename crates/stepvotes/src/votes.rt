@@ -1,4 +1,4 @@
-// Scores and the vote of a step: the symbol of largest score, the smallest number among equals.
+// Scores and the vote of a step: the first symbol whose score no other passes.
 use crate::pairs::Pair;
 ghost use mathlib.Core.Path.{_≡_};
 ghost use mathlib.Core.Bool.{false};
@@ -32,7 +32,7 @@ fn positive_part(c: i64) -> usize
     0
 }
 
-// Each symbol's score: the sum of max(c, 0) over the pairs whose w is that symbol.
+// The score of each symbol: a pair gives its c, if positive, to its w.
 fn scores_of(pairs: [Pair; 4], q: usize) -> [usize; 16]
     requires { ⌜ Known q ⌝ }
     requires { ⌜ ((i : ℕ) → i < q → Held q (pairAt pairs i)) ⌝ }

@@ -1,7 +1,7 @@
 // Runs the stop service on the cases of standard input and tells of each the answer, the output and the work area, every place
 // of both: a digit for a symbol, a dot where nothing was written. A case is a line: q, u, the number of steps, the lengths of
-// the work area and of the output, and the row. Among them are document 01's entries "76 steps pass, 77 gives 3" and "work of
-// 1,472 passes, 1,471 gives 6". The files stdin and stdout were made outside: they are what tests/reference prints for
+// the work area and of the output, and the row. Among them are the bounds of document 01's hand-worked table: 76 and 77
+// steps, 1,472 and 1,471 places of work. The files stdin and stdout were made outside: they are what tests/reference prints for
 // `cargo run --example stop_vectors -- cases` and `-- answers`.
 use libc::STDIN_FILENO;
 use libc::STDOUT_FILENO;

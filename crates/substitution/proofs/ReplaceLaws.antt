@@ -98,12 +98,12 @@ module _ (q : ℕ) (known : Known q) (S : Polynomials (symbols q) q) where
     unfolding substituted chosen
     substituted-is t e = subst (λ (b : Bool). substituted (symbols q) q s ω S ≡ chosen b) e refl
 
-    -- "(no change if w = 0)"
+    -- with w = 0 nothing is replaced
     pub substituted-none : number q ω ≡ 0 → substituted (symbols q) q s ω S ≡ S
     unfolding chosen
     substituted-none e = substituted-is true (eq-eqb _ _ e)
 
-    -- "z becomes z + w·(monomial of s) in all 2q polynomials"
+    -- with any other w the code's cells are those of the rule
     pub substituted-cells : (number q ω ≡ 0 → ⊥) → (p r i : ℕ) → p < 2 * q → r < 2 * q → i < width q
         → replacedZ q heights (xPower q s) (yPower q s) ω (2 * q) (cellsOf q S) p r i ≡ cellsOf q (substituted (symbols q) q s ω S) p r i
     unfolding chosen

@@ -20,8 +20,8 @@ pub record Apart (q : ℕ) (to from : Part) : Type 0 where
   pub from-row : from .row ≤ q
   pub rows : (j k : ℕ) → j < q → k < q → to .polynomial ≡ from .polynomial → to .row + j ≡ from .row + k → ⊥
 
--- "y^q is rewritten as x^(q+1) + y", where minus equals plus: the row of a part that row j of y^b times the part comes from by the
--- first of the two, or unchanged, and how far it is moved up
+-- y^q becomes x^(q+1) and a y that is subtracted: the row of a part that row j of y^b times the part comes from by the first of the
+-- two, or unchanged, and how far it is moved up
 unfoldable pub sourceRow : ℕ → ℕ → ℕ → ℕ
 sourceRow q b j = elim (leb b j) [ true ↦ j - b | false ↦ j + q - b ]
 

@@ -12,7 +12,7 @@ use lib.Dec.{leb, ltb, eqb}
 use lib.Bits.{bitXor}
 use Rattle.algebra.specs.Symbols.{Symbols}
 
--- "q is not 2 or 4" is refusal 1
+-- every other q is refusal 1
 unfoldable pub isKnown : ℕ → Bool
 isKnown q = eqb q 2 || eqb q 4
 
@@ -100,7 +100,7 @@ number q = symbols q .number
 abbrev pub symbol : (q : ℕ) → ℕ → Sym q
 symbol q = symbols q .symbol
 
--- "a symbol is q² or more"
+-- one of these numbers is no symbol's: refusal 5
 unfoldable pub anyBeyond : ℕ → List ℕ → Bool
 anyBeyond q [] = false
 anyBeyond q (a ∷ rest) = leb (q * q) a || anyBeyond q rest

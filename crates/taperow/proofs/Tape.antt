@@ -21,22 +21,22 @@ use Rattle.decoder.specs.Decoding.{decoded, decodeChecks, decodeAnswer, decodeW
 use Rattle.decoder.proofs.DecodeChecks.{passes as no-check}
 use Rattle.layout.specs.Layout.{tapeQ, tapeU}
 
--- "The work area needs 4q²(q²+2q-1) symbols"
+-- the work area for the tape code
 pub area-is : areaSize tapeQ ≡ 1472
 unfolding areaSize width
 area-is = refl
 
--- "n = 64"
+-- the tape code's n
 pub points-are : pointCount tapeQ ≡ 64
 unfolding pointCount
 points-are = refl
 
--- "k = 40"
+-- the tape code's k
 pub dimension-is : dimension tapeQ tapeU ≡ 40
 unfolding dimension nongaps keep tab from nongap gap
 dimension-is = refl
 
--- "τ = 9"
+-- the tape code's reach
 pub reach-is : reach tapeQ tapeU ≡ 9
 unfolding reach distance pointCount
 reach-is = refl

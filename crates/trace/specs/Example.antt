@@ -1,4 +1,4 @@
--- Document 01's example: "For "2 4" and "1 0 0 0 0 0 0 0" it prints exactly".
+-- Document 01's example of rowtrace, in "Hand-worked table": the text that is read, and what is printed for it.
 -- Assumes nothing.
 use mathlib.Core.List.{List, _++_}
 use Prim.Native.Nat.{ℕ}

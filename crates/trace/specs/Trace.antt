@@ -1,5 +1,5 @@
--- What rowtrace prints. Document 01: "First q and u. Each step line: s, the vote (- if none), leading degrees of f by i, then of
--- g, after the step. Last: the count and the message; for refusal 8, all lines and then "refuse 8"."
+-- What rowtrace prints: q and u, a line for each step, and the outcome, which is an acceptance or refusal 8; of any other refusal
+-- its line alone. Document 01, the end of "Hand-worked table".
 -- Assumes nothing.
 use mathlib.Core.List.{List, [], _∷_, _++_}
 use Prim.Native.Nat.{ℕ}
@@ -25,15 +25,15 @@ lastLine (Refused why) message = refuseLine why
 unfoldable pub rowLines : ℕ → ℕ → List ℕ → List ℕ
 rowLines q u row = line (q ∷ u ∷ []) ++ stepLines q u row (stepCount q) ++ lastLine (decoded q u row) (voted q u row)
 
--- "a call refused by any number but 8": 1, 2, 4, 5
+-- the refusals that leave no trace: 1, 2, 4, 5
 unfoldable pub traceChecks : ℕ → ℕ → List ℕ → List Check
 traceChecks q u row = codeChecks q u ++ symbolChecks q (pointCount q) row
 
--- "each as the only line"
+-- the line of such a refusal, or all lines
 unfoldable pub answer : ℕ → ℕ → List ℕ → List ℕ
 answer q u row = firstOf (traceChecks q u row) refuseLine (rowLines q u row)
 
--- "Any other text prints "refuse 4""
+-- a text that says nothing is refused with 4
 unfoldable pub answerTo : Said → List ℕ
 answerTo (asks q u row) = answer q u row
 answerTo nothing = refuseLine WrongLength

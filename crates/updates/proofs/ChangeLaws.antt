@@ -67,7 +67,7 @@ module _ (q : ℕ) (known : Known q) (S : Polynomials (symbols q) q) where
       raised-is q known (cellsOf q S (q + i) r) ρ c (cellsOf q S g r) n
       ∙ sym (held-polynomial q (raisedPart (symbols q) q S i g c ρ) r n hr hn)
 
-  -- "new f_i is f_i - r·x^(-c)·g_i'"
+  -- f_i - r·x^(-c)·g_i' in the place of f_i
   pub replaced-cells : (i g h c : ℕ) (ρ : K) → ((r n : ℕ) → r < q → n < width q → h ≤ n → cellsOf q S g r n ≡ symbols q .𝟘)
       → (p r n : ℕ) → p < 2 * q → r < 2 * q → n < width q
       → polynomialReduced q (q + i) g h c ρ (2 * q) (cellsOf q S) p r n
@@ -103,7 +103,7 @@ module _ (q : ℕ) (known : Known q) (S : Polynomials (symbols q) q) where
       chosen : (p : ℕ) (t : Bool) → eqb p (q + i) ≡ t → held q (new p) r n ≡ held q (pick p t) r n
       chosen p t e = ap (λ (b : Bool). held q (pick p b) r n) e
 
-  -- "new g_i' is f_i; new f_i is x^c f_i - r·g_i'"
+  -- f_i in the place of g_i', and x^c f_i - r·g_i' in its own
   pub exchanged-cells : (i g c : ℕ) (ρ : K) → g < q → (p r n : ℕ) → p < 2 * q → r < 2 * q → n < width q
       → polynomialsExchanged q (q + i) g c ρ (2 * q) (cellsOf q S) p r n
       ≡ cellsOf q (exchanged (symbols q) q i g (polynomial (symbols q) q (raisedPart (symbols q) q S i g c ρ)) S) p r n
@@ -168,11 +168,11 @@ module _ (q : ℕ) (known : Known q) (S : Polynomials (symbols q) q) where
         subst (λ (b : Bool). changed (symbols q) q ω i P S ≡ chosen b t′) e
         (subst (λ (b : Bool). changed (symbols q) q ω i P S ≡ chosen (eqb (number q (P .w)) (number q ω)) b) e′ refl)
 
-    -- "w_i = w: no more change"
+    -- w_i = w: all stay
     pub unchanged : number q (P .w) ≡ number q ω → changed (symbols q) q ω i P S ≡ S
     unchanged e = changed-is true (ltb 0 (positivePart (P .c))) (eq-eqb _ _ e) refl
 
-    -- "w_i ≠ w, c > 0"
+    -- w_i ≠ w, c > 0: an exchange
     pub changed-raised : (number q (P .w) ≡ number q ω → ⊥) → ltb 0 (positivePart (P .c)) ≡ true → P .partner < q
         → (p r n : ℕ) → p < 2 * q → r < 2 * q → n < width q
         → polynomialsExchanged q (q + i) (P .partner) (positivePart (P .c)) (ratio (symbols q) q ω P) (2 * q) (cellsOf q S) p r n
@@ -181,7 +181,7 @@ module _ (q : ℕ) (known : Known q) (S : Polynomials (symbols q) q) where
         exchanged-cells i (P .partner) (positivePart (P .c)) (ratio (symbols q) q ω P) hg p r n hp hr hn
         ∙ ap (λ (T : Polynomials (symbols q) q). cellsOf q T p r n) (sym (changed-is false true (ne-eqb _ _ ne) up))
 
-    -- "w_i ≠ w, c ≤ 0"
+    -- w_i ≠ w, c ≤ 0: f_i alone
     pub changed-reduced : (h : ℕ) → ((r n : ℕ) → r < q → n < width q → h ≤ n → cellsOf q S (P .partner) r n ≡ symbols q .𝟘)
         → (number q (P .w) ≡ number q ω → ⊥) → positivePart (P .c) ≡ 0 → (p r n : ℕ) → p < 2 * q → r < 2 * q → n < width q
         → polynomialReduced q (q + i) (P .partner) h (negativePart (P .c)) (ratio (symbols q) q ω P) (2 * q) (cellsOf q S) p r n

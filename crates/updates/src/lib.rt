@@ -82,7 +82,7 @@ fn ratio_of(table: &[u8], q: usize, vote: u8, w: u8, mu: u8, nu: u8) -> u8
     symbols::product_in(table, q, product, inverse)
 }
 
-// What pair i does after the substitution: c's sign picks the update, and -c is the shift where c is not positive.
+// What pair i does after the substitution: an exchange where c > 0, else f_i is reduced, with -c for the shift.
 fn change(
     table: &[u8],
     work: &mut [u8],

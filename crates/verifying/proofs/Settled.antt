@@ -22,7 +22,7 @@ pub verify-settled : (block payload : List ℕ) (records : List Record) (work : 
 verify-settled block payload records work P P′ =
     (P .answer-is ∙ sym (P′ .answer-is), P .records-are ∙ sym (P′ .records-are), P .work-is ∙ sym (P′ .work-is))
 
--- "No answer depends on what a work or output area held before": only their lengths count
+-- what an area held before does not show in the answer: only their lengths count
 pub verify-answer-by-lengths : (block payload : List ℕ) (records records′ : List Record) (work work′ : List ℕ)
     → length records ≡ length records′ → length work ≡ length work′
     → verifyAnswer block payload records work ≡ verifyAnswer block payload records′ work′

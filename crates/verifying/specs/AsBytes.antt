@@ -12,12 +12,12 @@ use Rattle.taperow.specs.declared.Record.{Record}
 use Rattle.verifying.specs.declared.Verified.{Verified}
 use Rattle.verifying.specs.declared.Verified.the-variants.{Refused}
 
--- "state 0 equal, 1 accepted but other message, 2 unreadable; and the count": the state's byte, then the count's
+-- a record's bytes: first its state, then its count
 unfoldable pub recordBytes : List Record → List ℕ
 recordBytes [] = []
 recordBytes (x ∷ xs) = x .state ∷ x .count ∷ recordBytes xs
 
--- "verify checks 9, 10, 11, 6"; two bytes are one record
+-- 9, 10, 11, 6; two bytes are one record
 unfoldable pub byteChecks : List ℕ → List ℕ → List ℕ → List ℕ → List Check
 byteChecks block payload records work = checksFor block payload (length records / 2) (length work)
 
@@ -25,13 +25,13 @@ unfoldable pub verifyBytesAnswer : List ℕ → List ℕ → List ℕ → List �
 verifyBytesAnswer block payload records work =
     firstOf (byteChecks block payload records work) Refused (verdictFrom 0 0 (allRecords block payload))
 
--- "Records past R stay."
+-- R records of two bytes, and the bytes behind them as they were
 unfoldable pub verifyBytesRecords : List ℕ → List ℕ → List ℕ → List ℕ → List ℕ
 verifyBytesRecords block payload records work =
     firstOf (byteChecks block payload records work) (λ why. records)
     (recordBytes (allRecords block payload) ++ drop (2 * rowCount block) records)
 
--- "ends with its part of the work area all zero; so does verifying"
+-- the decoder's part zero, unless refused
 unfoldable pub verifyBytesWork : List ℕ → List ℕ → List ℕ → List ℕ → List ℕ
 verifyBytesWork block payload records work =
     firstOf (byteChecks block payload records work) (λ why. work) (cleared (areaSize tapeQ) work)

@@ -11,19 +11,19 @@ use Rattle.taperow.specs.declared.Record.{Record}
 use Rattle.verifying.specs.declared.Verified.{Verified}
 use Rattle.verifying.specs.declared.Verified.the-variants.{Copied, Differs, Unreadable, Refused}
 
--- "The first that holds is given": the verdict before any row is read
+-- the verdict before any row is read: the refusal that is due, or Copied
 unfoldable pub verdictBefore : List ℕ → List ℕ → ℕ → ℕ → Verified
 verdictBefore block payload records work = firstOf (checksFor block payload records work) Refused (Copied 0)
 
--- "All rows are recorded", and none after a refusal
+-- all rows, and none after a refusal
 unfoldable pub rowsToRead : Verified → ℕ → ℕ
 rowsToRead (Copied total) rows = rows
 rowsToRead (Differs r) rows = 0
 rowsToRead (Unreadable r) rows = 0
 rowsToRead (Refused why) rows = 0
 
--- "The answer names the first row not in state 0 as Differs or Unreadable; if there is none, Copied with the sum of
--- counts": the verdict after row r too
+-- the verdict after row r too: while it is Copied the row's count is added, or the row ends it with Differs or Unreadable; after
+-- that, and after a refusal, it stays
 unfoldable pub nextVerdict : Verified → ℕ → Record → Verified
 nextVerdict (Copied total) r x =
     elim (eqb (x .state) 0) [

@@ -16,8 +16,8 @@ use Rattle.taperow.specs.Reading.{rowRecord}
 use Rattle.verifying.specs.declared.Verified.{Verified}
 use Rattle.verifying.specs.declared.Verified.the-variants.{Copied, Differs, Unreadable, Refused}
 
--- "The answer names the first row not in state 0 as Differs or Unreadable; if there is none, Copied with the sum of counts."
--- Rows from r on, after rows in state 0 whose counts add up to `total`
+-- the verdict on the rows from r on, after rows in state 0 whose counts add up to `total`: the first row in state 1 or 2 settles
+-- it, as Differs or Unreadable with its number; where there is none it is Copied with all counts added
 unfoldable pub verdictFrom : ℕ → ℕ → List Record → Verified
 verdictFrom r total [] = Copied total
 verdictFrom r total (x ∷ xs) =
@@ -26,11 +26,11 @@ verdictFrom r total (x ∷ xs) =
       | false ↦ elim (eqb (x .state) 1) [ true ↦ Differs r | false ↦ Unreadable r ]
     ]
 
--- "One outcome record per row"; "All rows are recorded."
+-- the records of all R rows
 unfoldable pub allRecords : List ℕ → List ℕ → List Record
 allRecords block payload = tab (rowCount block) (rowRecord block payload)
 
--- "verify checks 9, 10, 11, 6", where so many records and so many places of work are lent
+-- 9, 10, 11, 6, where so many records and so many places of work are lent
 unfoldable pub checksFor : List ℕ → List ℕ → ℕ → ℕ → List Check
 checksFor block payload records work =
     (BadBlock if not (isBlock block))
@@ -46,13 +46,13 @@ unfoldable pub verifyAnswer : List ℕ → List ℕ → List Record → List ℕ
 verifyAnswer block payload records work =
     firstOf (verifyChecks block payload records work) Refused (verdictFrom 0 0 (allRecords block payload))
 
--- "Records past R stay."
+-- R records, and those behind them as they were; a refusal writes nothing
 unfoldable pub verifyRecords : List ℕ → List ℕ → List Record → List ℕ → List Record
 verifyRecords block payload records work =
     firstOf (verifyChecks block payload records work) (λ why. records)
     (allRecords block payload ++ drop (rowCount block) records)
 
--- "ends with its part of the work area all zero; so does verifying"
+-- the decoder's part of the work area zero, the places behind it as they were; a refusal writes nothing
 unfoldable pub verifyWork : List ℕ → List ℕ → List Record → List ℕ → List ℕ
 verifyWork block payload records work =
     firstOf (verifyChecks block payload records work) (λ why. work) (cleared (areaSize tapeQ) work)

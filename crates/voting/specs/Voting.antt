@@ -7,7 +7,7 @@ use lib.ListN.{drop, replicate}
 use Rattle.published.specs.Start.{stepCount}
 use Rattle.steps.specs.Stop.{votesAfter}
 
--- "After the last step": the votes after all steps
+-- the votes after all steps
 unfoldable pub voted : ℕ → ℕ → List ℕ → List ℕ
 voted q u row = votesAfter q u row (stepCount q)
 

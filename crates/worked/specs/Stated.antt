@@ -30,25 +30,25 @@ unfoldable pub ordinates : ℕ → List ℕ
 ordinates x = map (λ P. number 4 (P .y)) (keep (λ P. eqb (number 4 (P .x)) x) (points (symbols 4) 4))
 
 pub record Stated : Type 0 where
-  -- q = 2: 2·2 = 3, 2·3 = 1, 3·3 = 2
+  -- products for q = 2
   pub two-two : product2 2 2 ≡ 3
   pub two-three : product2 2 3 ≡ 1
   pub three-three : product2 3 3 ≡ 2
-  -- Powers of a from 0 to 14
+  -- the powers of a
   pub powers-of-a : tab 15 powerOf2 ≡ 1 ∷ 2 ∷ 4 ∷ 8 ∷ 3 ∷ 6 ∷ 12 ∷ 11 ∷ 5 ∷ 10 ∷ 7 ∷ 14 ∷ 15 ∷ 13 ∷ 9 ∷ []
-  -- Gaps: 1 for q = 2; 1, 2, 3, 6, 7, 11 for q = 4
+  -- the gaps
   pub gaps-2 : gaps 2 ≡ 1 ∷ []
   pub gaps-4 : gaps 4 ≡ 1 ∷ 2 ∷ 3 ∷ 6 ∷ 7 ∷ 11 ∷ []
-  -- x⁵ = 0: 0, 1, 6, 7; x⁵ = 1: 2, 3, 4, 5; x⁵ = 6: 10, 11, 12, 13; x⁵ = 7: 8, 9, 14, 15; one x of each kind
+  -- the four sets of ordinates, for x⁵ = 0, 1, 6, 7; one x of each kind
   pub above-0 : ordinates 0 ≡ 0 ∷ 1 ∷ 6 ∷ 7 ∷ []
   pub above-1 : ordinates 1 ≡ 2 ∷ 3 ∷ 4 ∷ 5 ∷ []
   pub above-2 : ordinates 2 ≡ 10 ∷ 11 ∷ 12 ∷ 13 ∷ []
   pub above-4 : ordinates 4 ≡ 8 ∷ 9 ∷ 14 ∷ 15 ∷ []
-  -- The tape code is q = 4, u = 45: n = 64, k = 40, τ = 9
+  -- the tape code's n, k and τ
   pub tape-n : pointCount 4 ≡ 64
   pub tape-k : dimension 4 45 ≡ 40
   pub tape-reach : reach 4 45 ≡ 9
-  -- The start weight is 9 or 75; 10 or 76 steps; 112 or 1,472 symbols
+  -- start weights, steps and sizes of the work area
   pub start-2 : startWeight 2 ≡ 9
   pub start-4 : startWeight 4 ≡ 75
   pub steps-2 : stepCount 2 ≡ 10

@@ -49,7 +49,7 @@ pointNumbers = map (λ P. number 2 (P .x) ∷ number 2 (P .y) ∷ []) (points (s
 unfoldable pub powers : ℕ → ℕ → List ℕ
 powers q s = xPower q s ∷ yPower q s ∷ []
 
--- "Row 1 0 0 0 0 0 0 0"
+-- the row 1 0 0 0 0 0 0 0
 abbrev pub row : List ℕ
 row = 1 ∷ 0 ∷ 0 ∷ 0 ∷ 0 ∷ 0 ∷ 0 ∷ 0 ∷ []
 
@@ -74,7 +74,7 @@ pub record Table : Type 0 where
   -- Points, q = 2
   pub points-2 : pointNumbers
       ≡ (0 ∷ 0 ∷ []) ∷ (0 ∷ 1 ∷ []) ∷ (1 ∷ 2 ∷ []) ∷ (1 ∷ 3 ∷ []) ∷ (2 ∷ 2 ∷ []) ∷ (2 ∷ 3 ∷ []) ∷ (3 ∷ 2 ∷ []) ∷ (3 ∷ 3 ∷ []) ∷ []
-  -- q = 4: 11 is a gap, 12 is x³, 15 is y³, 45 is x^10·y
+  -- for q = 4: 11 is no weight; 12, 15 and 45 are those of x³, y³ and x^10·y
   pub gap-11 : gap 4 11 ≡ true
   pub no-gap-12 : gap 4 12 ≡ false
   pub monomial-12 : powers 4 12 ≡ 3 ∷ 0 ∷ []
@@ -87,7 +87,7 @@ pub record Table : Type 0 where
   pub row-of-1203 : rowNumbers 2 4 (1 ∷ 2 ∷ 0 ∷ 3 ∷ []) ≡ 1 ∷ 1 ∷ 0 ∷ 0 ∷ 0 ∷ 0 ∷ 1 ∷ 1 ∷ []
   -- h = x³y+x³+y+1, by power of y
   pub h-is : map (map (number 2)) (table (symbols 2) 2 (h (symbols 2) 2 (map (symbol 2) row))) ≡ (1 ∷ 0 ∷ 0 ∷ 1 ∷ []) ∷ (1 ∷ 0 ∷ 0 ∷ 1 ∷ []) ∷ []
-  -- After step 9: g_0 = x⁴+x, g_1 = z+h, f_0 = xz+x⁴+x, f_1 = yz
+  -- the polynomials after step 9: x⁴+x and z+h for the g, xz+x⁴+x and yz for the f
   pub g0-after-9 : polynomialAfter 1 (g 2 0) ≡ terms (x^_y^_ 4 0 ∷ x^_y^_ 1 0 ∷ [])
   pub g1-after-9 : polynomialAfter 1 (g 2 1) ≡ terms (z·x^_y^_ 0 0 ∷ hTerms)
   pub f0-after-9 : polynomialAfter 1 (f 2 0) ≡ terms (z·x^_y^_ 1 0 ∷ x^_y^_ 4 0 ∷ x^_y^_ 1 0 ∷ [])
@@ -96,7 +96,7 @@ pub record Table : Type 0 where
   pub partner-at-9 : pairOne .partner ≡ 0
   pub k-at-9 : pairOne .k ≡ pos 6
   pub c-at-9 : pairOne .c ≡ negsuc 1
-  -- Same row after step 6: f_0 = xz, f_1 = yz
+  -- xz and yz for the f after step 6
   pub f0-after-6 : polynomialAfter 4 (f 2 0) ≡ terms (z·x^_y^_ 1 0 ∷ [])
   pub f1-after-6 : polynomialAfter 4 (f 2 1) ≡ terms (z·x^_y^_ 0 1 ∷ [])
   -- Weight 1, i = 0, A = 0: i' = 1, k = -1

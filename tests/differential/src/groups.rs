@@ -6,7 +6,7 @@ use crate::case::Case;
 use crate::refusals::row_call;
 use crate::rows::{
     around, codes_and_damages, codes_and_steps, damaged, decode_case, encode_case, garbage,
-    row_of_q_2, stop_case,
+    row_of_q_2, stop_case, thin_borders,
 };
 use reference::block::MOST_ROWS;
 use reference::curve::Code;
@@ -104,6 +104,14 @@ pub fn all_groups() -> Vec<Group> {
             name: "decode: rows of q = 4, every u, 0 to reach + 2 places damaged",
             count: 10 * codes_and_damages(4).len(),
             make: |index, random| damaged_row(4, index, random),
+        },
+        Group {
+            name: "decode: rows of q = 4, u from 48 on, the reach and one place more damaged",
+            count: 13 * thin_borders().len(),
+            make: |index, random| {
+                let (code, places) = around(&thin_borders(), index);
+                decode_case(&code, damaged(&code, places, random), random)
+            },
         },
         Group {
             name: "decode: garbage rows of q = 4, every u",

@@ -88,6 +88,14 @@ pub fn codes_and_damages(q: u64) -> Vec<(Code, usize)> {
     all_codes(q).into_iter().flat_map(damages).collect()
 }
 
+/// The codes of q = 4 with the longest messages, damaged in as many places as the reach and in one more. There are 32 of
+/// them, so that every thirteenth of 13 rounds has each.
+pub fn thin_borders() -> Vec<(Code, usize)> {
+    let borders = |code: Code| [(code, code.reach()), (code, code.reach() + 1)];
+    let thin = all_codes(4).into_iter().filter(|code| code.u >= 48);
+    thin.flat_map(borders).collect()
+}
+
 /// Every code of q with every number of steps.
 pub fn codes_and_steps(q: u64) -> Vec<(Code, usize)> {
     let stops = |code: Code| (0..=step_count(code.q())).map(move |steps| (code, steps));

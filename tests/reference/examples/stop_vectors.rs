@@ -88,8 +88,8 @@ fn add_rows(random: &mut Random, q: u64, u: u64, stops: &[u64], cases: &mut Vec<
     }
 }
 
-/// The last case of each q with one thing wrong, and what passes at the same border: document 01's "76 steps pass, 77 gives 3"
-/// and "work of 1,472 passes, 1,471 gives 6" among them.
+/// The last case of each q with one thing wrong, and what passes at the same border: those of document
+/// 01's hand-worked table (76 and 77 steps, 1,472 and 1,471 places of work) are among them.
 fn borders(cases: &[Case]) -> Vec<Case> {
     let mut found = Vec::new();
     for q in [2, 4] {

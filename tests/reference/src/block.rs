@@ -1,8 +1,8 @@
 //! Blocks of tape rows (document 01, "Block and verification"; document 02, Wish 1): reading,
 //! verifying, making, writing.
 //!
-//! A block is 4 bytes length of what follows, 1 byte version, 1 byte u, 2 bytes count of rows R,
-//! then R rows of 32 bytes. Numbers are big-endian; in a byte the high four bits come first.
+//! The header has 8 bytes: 4 for the length of all that is behind these 4, then version, u, and 2
+//! for R; rows of 32 bytes follow. Numbers are big-endian; of a byte's symbols the high one is first.
 
 use crate::calls::decode;
 use crate::curve::Code;

@@ -71,7 +71,7 @@ pub fn decode(
 }
 
 /// The first n symbols of the corrected row if accepted, else of the received one; an empty part
-/// if q is unknown or that row is too short.
+/// if there is no such q or the row is too short.
 pub fn pass_on<'a>(q: u64, accepted: bool, received: &'a [u8], corrected: &'a [u8]) -> &'a [u8] {
     let chosen = if accepted { corrected } else { received };
     match Field::of(q) {

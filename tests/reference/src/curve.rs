@@ -10,7 +10,7 @@ pub struct Point {
     pub y: u8,
 }
 
-/// The points of the curve: x rising as a number, then y rising.
+/// The points of the curve, by x and then by y as numbers.
 pub fn points(field: Field) -> Vec<Point> {
     let q = field.q();
     let mut found = Vec::new();

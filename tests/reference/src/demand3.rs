@@ -33,7 +33,7 @@ fn named(state: &State) -> impl Iterator<Item = (String, &Polynomial)> {
     g.chain(f)
 }
 
-/// The weight in force is the start weight less the steps.
+/// Each step takes one off the weight.
 fn weight_follows_the_steps(state: &State, steps: usize) -> Result<(), String> {
     let expected = start_weight(state.code.q()) as i64 - steps as i64;
     if state.weight != expected {
@@ -59,7 +59,7 @@ fn all_vanish_on_the_rest_of_the_row(state: &State, row: &[u8]) -> Result<(), St
     Ok(())
 }
 
-/// g_i leads in the lower part at y^i, f_i in the upper part at y^i.
+/// g_i leads below and f_i above, both at y^i.
 fn leading_terms_are_in_their_places(state: &State) -> Result<(), String> {
     let q = state.code.q();
     if state.g.len() != q || state.f.len() != q {

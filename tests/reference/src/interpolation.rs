@@ -7,7 +7,7 @@ use crate::curve::{points, Point};
 use crate::field::Field;
 use crate::polynomial::{Monomial, Polynomial};
 
-/// h: the function of x-degree below q² and y-degree below q with the row's symbols as values.
+/// h: of degree below q² in x and below q in y, with the row's symbols as values.
 pub fn interpolate(field: Field, row: &[u8]) -> Polynomial {
     let basis = if field.q() == 2 {
         &BASIS_FOR_2

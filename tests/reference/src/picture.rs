@@ -14,8 +14,8 @@ pub fn picture_size(q: usize) -> usize {
     4 * q * q * picture_width(q)
 }
 
-/// The state in the layout of document 01, "Lent areas": g_0.., then f_0..; in each the upper
-/// polynomials by y, then the lower ones; in each the coefficients by rising power of x.
+/// The state in the layout of document 01, "Lent areas": the g before the f; of a polynomial the
+/// upper part before the lower, both by power of y; of a row the coefficient of x^0 first.
 pub fn picture(state: &State) -> Vec<u8> {
     let q = state.code.q();
     let mut symbols = Vec::with_capacity(picture_size(q));

@@ -38,7 +38,7 @@ impl Monomial {
         }
     }
 
-    /// The weight under s; an upper monomial weighs s more.
+    /// The weight under s, which is added in the upper part.
     pub fn weight_under(self, s: i64, q: usize) -> i64 {
         let own = weight(q, self.x, self.y) as i64;
         match self.part {
@@ -95,7 +95,7 @@ impl Polynomial {
             .map(|(monomial, _)| monomial.x)
     }
 
-    /// The heaviest term under weight s; equal weights go to the upper one.
+    /// The heaviest term under weight s, of two as heavy the upper one.
     pub fn leading_term(&self, s: i64) -> Option<(Monomial, u8)> {
         let q = self.field.q();
         self.terms()

@@ -5,13 +5,13 @@ pub type Refusal = u8;
 
 /// q is not 2 or 4.
 pub const UNKNOWN_Q: Refusal = 1;
-/// u is a gap, below q, or n or more.
+/// u is not from q to n - 1, or it is a gap.
 pub const UNUSABLE_U: Refusal = 2;
-/// More steps asked than there are.
+/// The decoder has not so many steps.
 pub const TOO_MANY_STEPS: Refusal = 3;
-/// Row not n long, or message not k long.
+/// Another length than n for a row, k for a message.
 pub const WRONG_LENGTH: Refusal = 4;
-/// A symbol is q² or more.
+/// A number from q² on where a symbol is due.
 pub const NOT_A_SYMBOL: Refusal = 5;
 /// Work area too short.
 pub const SHORT_WORK: Refusal = 6;

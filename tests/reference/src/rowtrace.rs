@@ -59,7 +59,7 @@ fn numbers(line: &[u8]) -> Option<Vec<u64>> {
     line.split(|&byte| byte == b' ').map(number).collect()
 }
 
-/// A decimal number of one to three digits with no needless leading zero.
+/// A decimal number of at most three digits; only 0 itself begins with 0.
 fn number(digits: &[u8]) -> Option<u64> {
     let well_formed = (1..=3).contains(&digits.len())
         && digits.iter().all(u8::is_ascii_digit)

@@ -208,8 +208,8 @@ impl State {
     }
 }
 
-/// The symbol of largest score, the smallest number among equals. A symbol's score is the sum of
-/// max(c, 0) over the pairings that name it, so symbols that none names take part with 0.
+/// The vote: of the symbols with the best score the one with the smallest number. A pairing gives
+/// its c, if positive, to the symbol that it names; symbols that none names take part with 0.
 pub fn most_supported(field: Field, pairings: &[Pairing]) -> u8 {
     let score = |symbol: u8| -> i64 {
         pairings

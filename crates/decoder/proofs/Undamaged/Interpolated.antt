@@ -1,5 +1,5 @@
--- The function h of a row is the one function with x-degree below q² and y-degree below q that takes the row's symbols at the
--- points: so every such function is the h of the row of its values.
+-- A function of h's degrees, below q² in x and below q in y, is known by its values at the points: so it is the h of the row of
+-- its values.
 -- Assumes nothing.
 use mathlib.Core.Path.{_≡_, sym, ap, _∙_}
 use mathlib.Core.List.{List}
