@@ -1,4 +1,4 @@
-// The symbols of q = 2 and q = 4 as bytes: sums, products, inverses and powers, total on bytes. A byte counts as the symbol of
+// The symbols of q = 2 and q = 4 as bytes: sums, products and inverses, total on bytes. A byte counts as the symbol of
 // its remainder by q².
 mod tables;
 
@@ -6,7 +6,6 @@ ghost use mathlib.Core.Path.{_≡_};
 ghost use mathlib.Core.Bool.{not};
 ghost use Prim.Native.Nat.{_+_, _≤_};
 ghost use lib.ListN.{length, replicate};
-ghost use Rattle.algebra.specs.Symbols.{power as powerOf};
 ghost use Rattle.symbols.specs.Rule.{isKnown, Known, sumOf, differenceOf, symbols, number, symbol, anyBeyond};
 ghost use Rattle.symbols.specs.Tables.{productRow, placesOn, HasProducts};
 ghost use Rattle.lists.specs.Tables.{put};
@@ -110,37 +109,12 @@ pub fn product_in(table: &[u8], q: usize, a: u8, b: u8) -> u8
     }
 }
 
-// The product of two symbols, for a caller that takes only few.
-pub fn product(q: usize, a: u8, b: u8) -> u8
-    requires { ⌜ Known q ⌝ }
-    ensures { λ r. ⌜ r ≡ number q (symbols q ._⊗_ (symbol q a) (symbol q b)) ⌝ }
-{
-    product_in(&table_of(q), q, a, b)
-}
-
-// All products of `a`, for such a caller.
+// All products of `a`, for a caller that takes only few.
 pub fn products_of(q: usize, a: u8) -> [u8; 16]
     requires { ⌜ Known q ⌝ }
     ensures { λ r. ⌜ r ≡ productRow q a ⌝ }
 {
     products_in(&table_of(q), q, a)
-}
-
-// The n-th power, by squaring; 0 to the power 0 is 1.
-pub fn power(q: usize, a: u8, n: usize) -> u8
-    requires { ⌜ Known q ⌝ }
-    ensures { λ r. ⌜ r ≡ number q (powerOf (symbols q) (symbol q a) n) ⌝ }
-{
-    let mut result = 1u8;
-    let mut base = a;
-    let mut left = n;
-    while 0 < left {
-        let factor = if left % 2 == 1 { base } else { 1 };
-        result = product(q, result, factor);
-        base = product(q, base, base);
-        left = left / 2;
-    }
-    result
 }
 
 // Whether each byte of the list is a symbol, that is, below q².
