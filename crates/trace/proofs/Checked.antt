@@ -11,6 +11,7 @@ use borrow.Author.Tests.{le-ltb}
 use lib.Dec.{ltb}
 use lib.ListN.{length, take, drop}
 use lib.Seq.{take-at}
+use Rattle.symbols.specs.Sizes.{mostPoints, mostArea}
 use Rattle.refusals.specs.declared.Refusal.{Refusal}
 use Rattle.refusals.proofs.Checks.{Refuses, later, Passes, done, clear, refused, passed, decideChecks, refuses-front, refuses-behind, refuses-split, passes-both, passes-split}
 use Rattle.curve.specs.Codes.{pointCount, dimension}
@@ -43,10 +44,10 @@ row-passes q u row p =
     passes-given q u (pointCount q) row (both .0) (both .1)
 
 -- areas that are large enough for both q are large enough for a full row
-work-enough : (q u : ℕ) (row work : List ℕ) → Received q u row → 1472 ≤ length work → areaSize q ≤ length work
+work-enough : (q u : ℕ) (row work : List ℕ) → Received q u row → mostArea ≤ length work → areaSize q ≤ length work
 work-enough q u row work full room = omega (arith, sizes q (full .known) .area)
 
-dimension-enough : (q u : ℕ) (row out : List ℕ) → Received q u row → 64 ≤ length out → dimension q u ≤ length out
+dimension-enough : (q u : ℕ) (row out : List ℕ) → Received q u row → mostPoints ≤ length out → dimension q u ≤ length out
 dimension-enough q u row out full room = omega (arith, dimension-le q u (full .code), count-small q (full .known))
 
 -- no step is not too many
@@ -63,7 +64,7 @@ stop-refuses q u row work out r =
     (λ s. refuses-behind (s .0) (later (none-asked q) (refuses-front _ (s .1))))
     (refuses-split (codeChecks q u) r)
 
-stop-passes : (q u : ℕ) (row work out : List ℕ) → 1472 ≤ length work → 64 ≤ length out → Passes (traceChecks q u row)
+stop-passes : (q u : ℕ) (row work out : List ℕ) → mostArea ≤ length work → mostPoints ≤ length out → Passes (traceChecks q u row)
     → Passes (stopChecks q u 0 row work out)
 unfolding traceChecks stopChecks
 stop-passes q u row work out room votes p =
@@ -76,7 +77,7 @@ stop-passes q u row work out room votes p =
     (clear (le-ltb (length out) (dimension q u) (dimension-enough q u row out full votes)) done))))
 
 -- where the stop service, asked for no step, refuses, its refusal is printed
-pub stop-refused : (q u : ℕ) (row work out : List ℕ) {r : Stopped} {why : Refusal} → 1472 ≤ length work → 64 ≤ length out
+pub stop-refused : (q u : ℕ) (row work out : List ℕ) {r : Stopped} {why : Refusal} → mostArea ≤ length work → mostPoints ≤ length out
     → r ≡ stopAnswer q u 0 row work out → r ≡ Refused why → answer q u row ≡ refuseLine why
 unfolding stopAnswer answer
 stop-refused q u row work out {r} {why} room votes is told =
@@ -97,7 +98,7 @@ pub record Begun (q u : ℕ) (row work after : List ℕ) : Type 0 where
   pub lines : answer q u row ≡ rowLines q u row
   pub shows : Starts q after (cellsOf q (stateAfter q u row 0 .polys))
 
-pub stop-done : (q u : ℕ) (row work out after : List ℕ) {r : Stopped} → 1472 ≤ length work → 64 ≤ length out
+pub stop-done : (q u : ℕ) (row work out after : List ℕ) {r : Stopped} → mostArea ≤ length work → mostPoints ≤ length out
     → r ≡ stopAnswer q u 0 row work out → after ≡ stopWork q u 0 row work out → r ≡ Done → Begun q u row work after
 unfolding stopAnswer stopWork answer pictureAfter picture cellNumber cellsOf shown numbers
 stop-done q u row work out after {r} room votes is left told =
@@ -117,7 +118,7 @@ stop-done q u row work out after {r} room votes is left told =
     (decideChecks (traceChecks q u row))
 
 -- decoding a full row, with room enough, refuses only by the count
-decode-passes : (q u : ℕ) (row work message corrected : List ℕ) → Received q u row → 1472 ≤ length work → 64 ≤ length message → 64 ≤ length corrected
+decode-passes : (q u : ℕ) (row work message corrected : List ℕ) → Received q u row → mostArea ≤ length work → mostPoints ≤ length message → mostPoints ≤ length corrected
     → Passes (decodeChecks q u row work message corrected)
 decode-passes q u row work message corrected full room one two =
     passes q u row work message corrected full
@@ -127,7 +128,7 @@ decode-passes q u row work message corrected full room one two =
       for-corrected = omega (arith, count-small q (full .known));
     })
 
-pub decode-answer : (q u : ℕ) (row work message corrected : List ℕ) → Received q u row → 1472 ≤ length work → 64 ≤ length message → 64 ≤ length corrected
+pub decode-answer : (q u : ℕ) (row work message corrected : List ℕ) → Received q u row → mostArea ≤ length work → mostPoints ≤ length message → mostPoints ≤ length corrected
     → decodeAnswer q u row work message corrected ≡ decoded q u row
 unfolding decodeAnswer
 decode-answer q u row work message corrected full room one two =

@@ -8,8 +8,11 @@ use request::put_code;
 use steplines::put_steps;
 use steps::Stopped;
 use steps::stop;
+use symbols::MOST_AREA;
+use symbols::MOST_POINTS;
 ghost use Prim.Native.Nat.{_+_, _≤_};
 ghost use lib.ListN.{length};
+ghost use Rattle.symbols.specs.Sizes.{mostArea};
 ghost use Rattle.lines.specs.Text.{Wrote};
 ghost use Rattle.curve.specs.Given.{Received};
 ghost use Rattle.workarea.specs.Area.{Starts, cellsOf};
@@ -33,11 +36,11 @@ fn put_decoded(out: &mut [u8], at: usize, answered: Decoded, message: &[u8]) -> 
 // The last line: what decoding the row answers.
 fn put_last(out: &mut [u8], at: usize, q: usize, u: usize, row: &[u8], work: &mut [u8]) -> usize
     requires { ⌜ Received q u (now row) ⌝ }
-    requires { ⌜ (1472 ≤ length (now work)) × (at + lastSize q ≤ length (now out)) ⌝ }
+    requires { ⌜ (mostArea ≤ length (now work)) × (at + lastSize q ≤ length (now out)) ⌝ }
     ensures { λ r. ⌜ Wrote (now (out .entry)) at (lastLine (decoded q u (now (row .entry))) (voted q u (now (row .entry)))) (now (out .exit)) r ⌝ }
 {
-    let mut message = [0u8; 64];
-    let mut corrected = [0u8; 64];
+    let mut message = [0u8; MOST_POINTS];
+    let mut corrected = [0u8; MOST_POINTS];
     let answered = decode(q, u, row, work, &mut message, &mut corrected);
     let k = dimension(q, u);
     put_decoded(out, at, answered, &message[..k])
@@ -46,7 +49,7 @@ fn put_last(out: &mut [u8], at: usize, q: usize, u: usize, row: &[u8], work: &mu
 // All lines of a full row whose start stands in the work area.
 fn put_lines(out: &mut [u8], q: usize, u: usize, row: &[u8], work: &mut [u8]) -> usize
     requires { ⌜ Received q u (now row) ⌝ }
-    requires { ⌜ (1472 ≤ length (now work)) × (traceSize q ≤ length (now out)) ⌝ }
+    requires { ⌜ (mostArea ≤ length (now work)) × (traceSize q ≤ length (now out)) ⌝ }
     requires { ⌜ Starts q (now work) (cellsOf q (stateAfter q u (now row) 0 .polys)) ⌝ }
     ensures { λ r. ⌜ Wrote (now (out .entry)) 0 (rowLines q u (now (row .entry))) (now (out .exit)) r ⌝ }
 {
@@ -60,8 +63,8 @@ pub fn answer(out: &mut [u8], q: usize, u: usize, row: &[u8]) -> usize
     requires { ⌜ longestTrace ≤ length (now out) ⌝ }
     ensures { λ r. ⌜ Wrote (now (out .entry)) 0 (Trace·answer q u (now (row .entry))) (now (out .exit)) r ⌝ }
 {
-    let mut work = [0u8; 1472];
-    let mut votes = [0u8; 64];
+    let mut work = [0u8; MOST_AREA];
+    let mut votes = [0u8; MOST_POINTS];
     match stop(q, u, 0, row, &mut work, &mut votes) {
         Stopped::Done => put_lines(out, q, u, row, &mut work),
         Stopped::Refused(why) => put_refusal(out, 0, why),

@@ -1,5 +1,7 @@
 // The update of a pair: one polynomial reduced by another, or both exchanged.
 use stepvotes::Pair;
+use symbols::MOST_Q;
+use symbols::MOST_SYMBOLS;
 use workarea::Row;
 ghost use mathlib.Core.Path.{_≡_};
 ghost use Prim.Native.Nat.{ℕ, _*_, _<_};
@@ -32,7 +34,7 @@ fn reduce_polynomial(
     g: usize,
     height: usize,
     shift: usize,
-    products: [u8; 16],
+    products: [u8; MOST_SYMBOLS],
 )
     requires { ⌜ Area q (length (now work)) ⌝ }
     requires { ⌜ (f < 2 * q) × (g < 2 * q) × (f ≡ g → ⊥) ⌝ }
@@ -59,7 +61,7 @@ fn exchange_polynomials(
     f: usize,
     g: usize,
     shift: usize,
-    products: [u8; 16],
+    products: [u8; MOST_SYMBOLS],
 )
     requires { ⌜ Area q (length (now work)) ⌝ }
     requires { ⌜ (f < 2 * q) × (g < 2 * q) × (f ≡ g → ⊥) ⌝ }
@@ -126,7 +128,7 @@ pub fn change_all(
     work: &mut [u8],
     q: usize,
     heights: &mut [usize],
-    pairs: [Pair; 4],
+    pairs: [Pair; MOST_Q],
     vote: u8,
 )
     requires { ⌜ Area q (length (now work)) ⌝ }

@@ -13,6 +13,7 @@ use Rattle.algebra.proofs.Ring.{ring, add-zero, mul-zero}
 use Rattle.algebra.proofs.Polynomials.{shift-add, shift-below}
 use Rattle.lists.specs.Tables.{put}
 use Rattle.lists.proofs.Put.{put-same, put-out, put-put, put-kept, put-parts, put-parts-back}
+use Rattle.symbols.specs.Sizes.{mostSymbols}
 use Rattle.symbols.specs.Rule.{Known, sumOf, differenceOf, symbols, number}
 use Rattle.symbols.proofs.FieldLaws.{laws-of}
 use Rattle.symbols.proofs.Bytes.{number-of-sum, number-of-difference, number-of-negative}
@@ -81,7 +82,7 @@ module _ (q : ℕ) (known : Known q) where
     byte : (i : ℕ) → i < width q → getD l (rowPlace q p r + i) 0 ≡ number q (S p r i)
     byte i h = shown-read q S l rest e p r i hp hr h
 
-    product : (i : ℕ) → i < width q → getD products (getD l (rowPlace q p′ r′ + i) 0 % 16) 0 ≡ number q (ρ ⊗ S p′ r′ i)
+    product : (i : ℕ) → i < width q → getD products (getD l (rowPlace q p′ r′ + i) 0 % mostSymbols) 0 ≡ number q (ρ ⊗ S p′ r′ i)
     product i h = rw (shown-read q S l rest e p′ r′ i hp′ hr′ h) (m .at (S p′ r′ i))
 
     negative : (i : ℕ) → i < width q → negativeByte q l (rowPlace q p′ r′) products i ≡ number q (𝟘 ⊖ ρ ⊗ S p′ r′ i)
@@ -235,7 +236,7 @@ module _ (q : ℕ) (known : Known q) where
 
           below : (i : ℕ) → i < c → negativeByte q upper g products i ≡ v i
           below i hi =
-              ap (λ (a : ℕ). differenceOf q 0 (getD products (a % 16) 0)) (at-g i hi)
+              ap (λ (a : ℕ). differenceOf q 0 (getD products (a % mostSymbols) 0)) (at-g i hi)
               ∙ negative i (omega arith)
               ∙ ap (number q) (sym (raised-below (S p r) ρ c (S p′ r′) i hi))
 

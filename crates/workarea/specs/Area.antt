@@ -11,6 +11,7 @@ use lib.ListN.{getD}
 use Rattle.algebra.specs.Symbols.{Symbols}
 use Rattle.algebra.specs.Functions.{shift}
 use Rattle.lists.specs.Tables.{put}
+use Rattle.symbols.specs.Sizes.{mostQ, mostSymbols, mostWidth}
 use Rattle.symbols.specs.Rule.{Known, differenceOf, symbols, number}
 use Rattle.published.specs.Start.{Polynomials, coefficient, width}
 use Rattle.published.specs.Picture.{areaSize, layout, picture}
@@ -20,7 +21,7 @@ use Rattle.workarea.specs.declared.area.Row.{Row}
 
 -- the byte at `to` and the one at `from` times what `products` is the table row of, made one by an operation: sum or difference
 abbrev pub madeByte : (ℕ → ℕ → ℕ) → List ℕ → ℕ → ℕ → List ℕ → ℕ → ℕ
-madeByte operation l to from products i = operation (getD l (to + i) 0) (getD products (getD l (from + i) 0 % 16) 0)
+madeByte operation l to from products i = operation (getD l (to + i) 0) (getD products (getD l (from + i) 0 % mostSymbols) 0)
 
 -- the n bytes from `to` on with a multiple of those from `from` on added to them, or subtracted
 unfoldable pub made : (ℕ → ℕ → ℕ) → List ℕ → ℕ → ℕ → ℕ → List ℕ → List ℕ
@@ -28,7 +29,7 @@ made operation l to from n products = put l to n (madeByte operation l to from p
 
 -- the byte `shift` places below, minus the byte of the other row times what `products` is the table row of
 abbrev pub raisedByte : ℕ → List ℕ → ℕ → ℕ → ℕ → List ℕ → ℕ → ℕ
-raisedByte q l f g shift products i = differenceOf q (getD l (f + (i - shift)) 0) (getD products (getD l (g + i) 0 % 16) 0)
+raisedByte q l f g shift products i = differenceOf q (getD l (f + (i - shift)) 0) (getD products (getD l (g + i) 0 % mostSymbols) 0)
 
 -- n bytes of both rows from place i on: f's become the raised ones, and g's become f's
 unfoldable pub exchangedAbove : ℕ → List ℕ → ℕ → ℕ → ℕ → List ℕ → ℕ → ℕ → List ℕ
@@ -37,7 +38,7 @@ exchangedAbove q l f g shift products i n =
 
 -- zero, minus the byte of the other row times what `products` is the table row of
 abbrev pub negativeByte : ℕ → List ℕ → ℕ → List ℕ → ℕ → ℕ
-negativeByte q l g products i = differenceOf q 0 (getD products (getD l (g + i) 0 % 16) 0)
+negativeByte q l g products i = differenceOf q 0 (getD products (getD l (g + i) 0 % mostSymbols) 0)
 
 -- the first n bytes of both rows, where nothing stands `shift` places below
 unfoldable pub exchangedBelow : ℕ → List ℕ → ℕ → ℕ → List ℕ → ℕ → List ℕ
@@ -48,9 +49,9 @@ exchangedBelow q l f g products n = put (put l f n (negativeByte q l g products)
 pub record Area (q n : ℕ) : Type 0 where
   pub known : Known q
   pub some : 2 ≤ q
-  pub few : q ≤ 4
+  pub few : q ≤ mostQ
   pub square : q * q < width q
-  pub narrow : width q ≤ 23
+  pub narrow : width q ≤ mostWidth
   pub room : areaSize q ≤ n
 
 -- where row r of polynomial p starts
@@ -118,7 +119,7 @@ module _ (q : ℕ) where
 
   -- `products` is the table row of ρ
   pub record Multiplies (products : List ℕ) (ρ : K) : Type 0 where
-    pub at : (a : K) → getD products (number q a % 16) 0 ≡ number q (ρ ⊗ a)
+    pub at : (a : K) → getD products (number q a % mostSymbols) 0 ≡ number q (ρ ⊗ a)
 
   -- n rows of polynomial p, from row d on, replaced by those of F
   unfoldable pub withRows : ℕ → ℕ → ℕ → (ℕ → ℕ → K) → Cells → Cells

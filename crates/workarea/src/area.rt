@@ -1,6 +1,7 @@
 // Rows of the work area by polynomial and row: the only functions that work out where a row stands.
 use crate::heights;
 use crate::rows;
+use symbols::MOST_SYMBOLS;
 ghost use mathlib.Core.Path.{_≡_};
 ghost use Prim.Native.Nat.{_+_, _*_, _<_};
 ghost use lib.ListN.{length};
@@ -78,7 +79,7 @@ pub fn add_row(
     from: Row,
     height: usize,
     shift: usize,
-    products: [u8; 16],
+    products: [u8; MOST_SYMBOLS],
 )
     requires { ⌜ Area q (length (now work)) ⌝ }
     requires { ⌜ TwoRows q to from ⌝ }
@@ -97,7 +98,7 @@ pub fn subtract_row(
     from: Row,
     height: usize,
     shift: usize,
-    products: [u8; 16],
+    products: [u8; MOST_SYMBOLS],
 )
     requires { ⌜ Area q (length (now work)) ⌝ }
     requires { ⌜ TwoRows q to from ⌝ }
@@ -116,7 +117,7 @@ pub fn exchange_row(
     g: usize,
     r: usize,
     shift: usize,
-    products: [u8; 16],
+    products: [u8; MOST_SYMBOLS],
 )
     requires { ⌜ Area q (length (now work)) ⌝ }
     requires { ⌜ (f < 2 * q) × (g < 2 * q) × (r < 2 * q) × (f ≡ g → ⊥) ⌝ }

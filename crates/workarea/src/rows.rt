@@ -1,5 +1,7 @@
 // Runs of bytes in the work area: the loops that clear bytes and that add a multiple of one row to another or subtract it, with
 // no branch inside and no call but the sum or the difference, which are one instruction each.
+use symbols::MOST_SYMBOLS;
+use symbols::SYMBOL_PLACES;
 ghost use mathlib.Core.Path.{_≡_};
 ghost use mathlib.Core.List.{_++_};
 ghost use mathlib.Core.Logic.{_⊎_};
@@ -25,14 +27,14 @@ pub fn add_bytes(
     to: usize,
     from: usize,
     count: usize,
-    products: [u8; 16],
+    products: [u8; MOST_SYMBOLS],
 )
     requires { ⌜ (to + count ≤ length (now work)) × (from + count ≤ length (now work)) ⌝ }
     requires { ⌜ (to + count ≤ from) ⊎ (from + count ≤ to) ⌝ }
     ensures { λ _. ⌜ now (work .exit) ≡ made (sumOf q) (now (work .entry)) to from count products ⌝ }
 {
     for i in 0..count {
-        let factor = (work[from + i] % 16) as usize;
+        let factor = (work[from + i] % SYMBOL_PLACES) as usize;
         work[to + i] = symbols::sum(q, work[to + i], products[factor]);
     }
 }
@@ -44,14 +46,14 @@ pub fn subtract_bytes(
     to: usize,
     from: usize,
     count: usize,
-    products: [u8; 16],
+    products: [u8; MOST_SYMBOLS],
 )
     requires { ⌜ (to + count ≤ length (now work)) × (from + count ≤ length (now work)) ⌝ }
     requires { ⌜ (to + count ≤ from) ⊎ (from + count ≤ to) ⌝ }
     ensures { λ _. ⌜ now (work .exit) ≡ made (differenceOf q) (now (work .entry)) to from count products ⌝ }
 {
     for i in 0..count {
-        let factor = (work[from + i] % 16) as usize;
+        let factor = (work[from + i] % SYMBOL_PLACES) as usize;
         work[to + i] = symbols::difference(q, work[to + i], products[factor]);
     }
 }
@@ -65,7 +67,7 @@ pub fn exchange_above(
     g: usize,
     shift: usize,
     width: usize,
-    products: [u8; 16],
+    products: [u8; MOST_SYMBOLS],
 )
     requires { ⌜ (f + width ≤ length (now work)) × (g + width ≤ length (now work)) ⌝ }
     requires { ⌜ (f + width ≤ g) ⊎ (g + width ≤ f) ⌝ }
@@ -76,7 +78,7 @@ pub fn exchange_above(
     while shift < i {
         i -= 1;
         let old = work[f + i];
-        let factor = (work[g + i] % 16) as usize;
+        let factor = (work[g + i] % SYMBOL_PLACES) as usize;
         work[f + i] = symbols::difference(q, work[f + (i - shift)], products[factor]);
         work[g + i] = old;
     }
@@ -89,7 +91,7 @@ pub fn exchange_below(
     f: usize,
     g: usize,
     count: usize,
-    products: [u8; 16],
+    products: [u8; MOST_SYMBOLS],
 )
     requires { ⌜ (f + count ≤ length (now work)) × (g + count ≤ length (now work)) ⌝ }
     requires { ⌜ (f + count ≤ g) ⊎ (g + count ≤ f) ⌝ }
@@ -97,7 +99,7 @@ pub fn exchange_below(
 {
     for i in 0..count {
         let old = work[f + i];
-        let factor = (work[g + i] % 16) as usize;
+        let factor = (work[g + i] % SYMBOL_PLACES) as usize;
         work[f + i] = symbols::difference(q, 0, products[factor]);
         work[g + i] = old;
     }

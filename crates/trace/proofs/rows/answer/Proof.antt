@@ -3,6 +3,7 @@
 use native.Mathlib.Omega.{arith}
 use lib.Dec.{lit≤}
 use lib.ListN.{replicate}
+use Rattle.symbols.specs.Sizes.{mostPoints, mostArea}
 use Rattle.trace.proofs.Checked.{Begun, stop-refused, stop-done}
 use Rattle.trace.proofs.Lengths.{longest, length-refused}
 use borrow.Author.Needs.{needs}
@@ -13,11 +14,11 @@ use Rattle.trace.proofs.rows.answer.Tie as tie
 begun : (c : tie.After-enum-told)
     → let called = c .before .before .before .before in
     let a = called .before .before .before .before .before .args in
-    Begun (a .q) (a .u) (a .row .now) (replicate 1472 0) (called .stop .last .1 .1 .1 .1 .0)
+    Begun (a .q) (a .u) (a .row .now) (replicate mostArea 0) (called .stop .last .1 .1 .1 .1 .0)
 begun c =
     let called = c .before .before .before .before in
     let a = called .before .before .before .before .before .args in
-    stop-done (a .q) (a .u) (a .row .now) (replicate 1472 0) (replicate 64 0) (called .stop .last .1 .1 .1 .1 .0) (lit≤ tt) (lit≤ tt)
+    stop-done (a .q) (a .u) (a .row .now) (replicate mostArea 0) (replicate mostPoints 0) (called .stop .last .1 .1 .1 .1 .0) (lit≤ tt) (lit≤ tt)
     (called .stop .ensures .0) (called .stop .ensures .1 .0) (c .enum-told .given .1)
 
 slice-aggregate-stop : tie.Need-slice-aggregate-stop
@@ -70,7 +71,7 @@ returns-2 c =
     let told = called .before .before in
     let stopped = told .before .before .before .before .before in
     let a = stopped .before .before .before .before .before .args in
-    rw (stop-refused (a .q) (a .u) (a .row .now) (replicate 1472 0) (replicate 64 0) (lit≤ tt) (lit≤ tt) (stopped .stop .ensures .0) (told .before .why .given .1))
+    rw (stop-refused (a .q) (a .u) (a .row .now) (replicate mostArea 0) (replicate mostPoints 0) (lit≤ tt) (lit≤ tt) (stopped .stop .ensures .0) (told .before .why .given .1))
     (called .put-refusal .ensures)
 
 pub answer-spec : {M : Type 1} → statement M

@@ -7,6 +7,7 @@ use native.Mathlib.Omega.{arith}
 use lib.Dec.{lit≤}
 use lib.ListN.{length, take, replicate}
 use lib.Seq.{length-take-le}
+use Rattle.symbols.specs.Sizes.{mostPoints}
 use Rattle.curve.proofs.CodeLaws.{code-below, dimension-le}
 use Rattle.voting.specs.Voting.{voted}
 use Rattle.decoder.specs.Decoding.{decoded}
@@ -34,7 +35,7 @@ last c =
     let a = start c .args in
     let pre = start c .pre in
     let said = called c .decode .ensures in
-    let none : List ℕ = replicate 64 0 in
+    let none : List ℕ = replicate mostPoints 0 in
     last-line (a .q) (a .u) (a .row .now) (a .work .now) none none (called c .decode .last .1 .1 .1 .1 .0) (said .0)
     (decode-answer (a .q) (a .u) (a .row .now) (a .work .now) none none (pre .0) (pre .1 .0) (lit≤ tt) (lit≤ tt)) (said .1 .1 .0)
     (c .dimension .ensures)
