@@ -45,17 +45,18 @@ fn quotient_of(q: usize, total: usize) -> i64
     }
 }
 
-// b, the coefficient of x^k y^i' in the lower part of f_i, for a k that is not negative.
-fn looked_at(work: &[u8], q: usize, i: usize, partner: usize, k: i64) -> u8
+// -b, where b is the coefficient of x^k y^i' in the lower part of f_i, for a k that is not negative.
+fn negative_at(work: &[u8], q: usize, i: usize, partner: usize, k: i64) -> u8
     requires { ⌜ Area q (length (now work)) ⌝ }
     requires { ⌜ (i < q) × (partner < q) × (natAbs k ≤ mostDegree) × (isNegative k ≡ false) ⌝ }
-    ensures { λ b. ⌜ ((S : Polynomials (symbols q) q) → Narrow q (cellsOf q S) → Starts q (now (work .entry)) (cellsOf q S)
-        → b ≡ number q (looked (symbols q) q S i partner k)) ⌝ }
+    ensures { λ r. ⌜ ((S : Polynomials (symbols q) q) → Narrow q (cellsOf q S) → Starts q (now (work .entry)) (cellsOf q S)
+        → r ≡ number q (symbols q .minus (looked (symbols q) q S i partner k))) ⌝ }
 {
-    reading::coefficient_at(work, q, q + i, q + partner, k as usize)
+    let b = reading::coefficient_at(work, q, q + i, q + partner, k as usize);
+    symbols::difference(q, 0, b)
 }
 
-// w_i and μ_i in a step that votes, where `lead` is the leading coefficient of f_i. In these fields -b is b.
+// w_i and μ_i in a step that votes, where `lead` is the leading coefficient of f_i.
 fn in_voted_step(
     table: &[u8],
     work: &[u8],
@@ -71,9 +72,9 @@ fn in_voted_step(
         → lead ≡ number q μ → NamedAs q named (inVotedStep (symbols q) q k (looked (symbols q) q S i partner k) μ)) ⌝ }
 {
     if 0 <= k {
-        let b = looked_at(work, q, i, partner, k);
+        let negative = negative_at(work, q, i, partner, k);
         return NamedSymbol {
-            w: symbols::product_in(table, q, b, symbols::inverse(q, lead)),
+            w: symbols::product_in(table, q, negative, symbols::inverse(q, lead)),
             mu: lead,
         };
     }
@@ -91,7 +92,7 @@ fn in_unvoted_step(work: &[u8], q: usize, i: usize, partner: usize, k: i64) -> N
         return NamedSymbol { w: 0, mu: 1 };
     }
     NamedSymbol {
-        w: looked_at(work, q, i, partner, k),
+        w: negative_at(work, q, i, partner, k),
         mu: 1,
     }
 }
