@@ -1,6 +1,8 @@
 // Products by monomials: ρ·x^a·y^b times one part of a polynomial added to another part, and the substitution for z.
 use curve::Monomial;
 use symbols::MOST_SYMBOLS;
+use workarea::MINUS;
+use workarea::PLUS;
 use workarea::Row;
 ghost use mathlib.Core.Path.{_≡_};
 ghost use Prim.Native.Nat.{_+_, _*_, _<_, _≤_};
@@ -79,7 +81,16 @@ fn add_product_row(
         polynomial: from.polynomial,
         row: from.row + source.row,
     };
-    workarea::add_row(work, q, target, main, height, a + source.shift, products);
+    workarea::change_row(
+        work,
+        q,
+        PLUS,
+        target,
+        main,
+        height,
+        a + source.shift,
+        products,
+    );
     if j == 0 {
         return;
     }
@@ -91,7 +102,7 @@ fn add_product_row(
         polynomial: from.polynomial,
         row: from.row + (j + q - b - 1),
     };
-    workarea::subtract_row(work, q, target, round, height, a, products);
+    workarea::change_row(work, q, MINUS, target, round, height, a, products);
 }
 
 // The same in all rows of the part; there is nothing to do where none has a symbol.

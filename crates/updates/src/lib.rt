@@ -2,6 +2,7 @@
 use stepvotes::Pair;
 use symbols::MOST_Q;
 use symbols::MOST_SYMBOLS;
+use workarea::MINUS;
 use workarea::Row;
 ghost use mathlib.Core.Path.{_≡_};
 ghost use Prim.Native.Nat.{ℕ, _*_, _<_};
@@ -50,7 +51,7 @@ fn reduce_polynomial(
             polynomial: g,
             row: r,
         };
-        workarea::subtract_row(work, q, to, from, count, shift, products);
+        workarea::change_row(work, q, MINUS, to, from, count, shift, products);
     }
 }
 

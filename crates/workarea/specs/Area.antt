@@ -2,7 +2,7 @@
 -- Row r of a polynomial is the one of y^(r mod q) in part r / q. Document 01, "Lent areas".
 -- Assumes nothing.
 use mathlib.Core.Path.{_≡_}
-use mathlib.Core.Bool.{true, false, _&&_}
+use mathlib.Core.Bool.{Bool, true, false, cond, _&&_}
 use mathlib.Core.List.{List, _++_}
 use mathlib.Core.Logic.{_⊎_}
 use Prim.Native.Nat.{ℕ, _+_, _-_, _*_, _/_, _%_, _<_, _≤_}
@@ -12,12 +12,16 @@ use Rattle.algebra.specs.Symbols.{Symbols}
 use Rattle.algebra.specs.Functions.{shift}
 use Rattle.lists.specs.Tables.{put}
 use Rattle.symbols.specs.Sizes.{mostQ, mostSymbols, mostWidth}
-use Rattle.symbols.specs.Rule.{Known, differenceOf, symbols, number}
+use Rattle.symbols.specs.Rule.{Known, sumOf, differenceOf, symbols, number}
 use Rattle.published.specs.Start.{Polynomials, coefficient, width}
 use Rattle.published.specs.Picture.{areaSize, layout, picture}
 use Rattle.workarea.specs.declared.area.Row.{Row}
 
 -- ---- the bytes of a row
+
+-- the numbers of a sum, or of a difference
+abbrev pub numbersMade : ℕ → Bool → ℕ → ℕ → ℕ
+numbersMade q minus = cond minus (differenceOf q) (sumOf q)
 
 -- the byte at `to` and the one at `from` times what `products` is the table row of, made one by an operation: sum or difference
 abbrev pub madeByte : (ℕ → ℕ → ℕ) → List ℕ → ℕ → ℕ → List ℕ → ℕ → ℕ
@@ -129,6 +133,10 @@ module _ (q : ℕ) where
   -- the first h symbols of a row, and zeros
   unfoldable pub firstSymbols : ℕ → (ℕ → K) → ℕ → K
   firstSymbols h a i = elim (ltb i h) [ true ↦ a i | false ↦ 𝟘 ]
+
+  -- a sum, or a difference
+  abbrev pub symbolsMade : Bool → K → K → K
+  symbolsMade minus = cond minus _⊖_ _⊕_
 
   -- a row and ρ·x^c times a row, made one by an operation
   unfoldable pub withMultiple : (K → K → K) → (ℕ → K) → K → ℕ → (ℕ → K) → ℕ → K

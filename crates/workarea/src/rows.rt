@@ -7,8 +7,7 @@ ghost use mathlib.Core.List.{_++_};
 ghost use mathlib.Core.Logic.{_⊎_};
 ghost use Prim.Native.Nat.{_+_, _-_, _≤_};
 ghost use lib.ListN.{length, drop, replicate};
-ghost use Rattle.symbols.specs.Rule.{sumOf, differenceOf};
-ghost use Rattle.workarea.specs.Area.{made, exchangedAbove, exchangedBelow};
+ghost use Rattle.workarea.specs.Area.{numbersMade, made, exchangedAbove, exchangedBelow};
 
 // Sets the first `count` bytes to zero.
 pub fn clear(work: &mut [u8], count: usize)
@@ -20,29 +19,22 @@ pub fn clear(work: &mut [u8], count: usize)
     }
 }
 
-// Adds to the bytes from `to` on the bytes from `from` on, each times what `products` is the table row of.
-pub fn add_bytes(
-    work: &mut [u8],
-    q: usize,
-    to: usize,
-    from: usize,
-    count: usize,
-    products: [u8; MOST_SYMBOLS],
-)
-    requires { ⌜ (to + count ≤ length (now work)) × (from + count ≤ length (now work)) ⌝ }
-    requires { ⌜ (to + count ≤ from) ⊎ (from + count ≤ to) ⌝ }
-    ensures { λ _. ⌜ now (work .exit) ≡ made (sumOf q) (now (work .entry)) to from count products ⌝ }
+// The sum of two symbols, or their difference.
+fn sum_or_difference(q: usize, minus: bool, a: u8, b: u8) -> u8
+    ensures { λ r. ⌜ r ≡ numbersMade q minus a b ⌝ }
 {
-    for i in 0..count {
-        let factor = (work[from + i] % SYMBOL_PLACES) as usize;
-        work[to + i] = symbols::sum(q, work[to + i], products[factor]);
+    if minus {
+        symbols::difference(q, a, b)
+    } else {
+        symbols::sum(q, a, b)
     }
 }
 
-// Subtracts the same from them.
-pub fn subtract_bytes(
+// Adds to the bytes from `to` on the bytes from `from` on, each times what `products` is the table row of, or subtracts them.
+pub fn change_bytes(
     work: &mut [u8],
     q: usize,
+    minus: bool,
     to: usize,
     from: usize,
     count: usize,
@@ -50,11 +42,11 @@ pub fn subtract_bytes(
 )
     requires { ⌜ (to + count ≤ length (now work)) × (from + count ≤ length (now work)) ⌝ }
     requires { ⌜ (to + count ≤ from) ⊎ (from + count ≤ to) ⌝ }
-    ensures { λ _. ⌜ now (work .exit) ≡ made (differenceOf q) (now (work .entry)) to from count products ⌝ }
+    ensures { λ _. ⌜ now (work .exit) ≡ made (numbersMade q minus) (now (work .entry)) to from count products ⌝ }
 {
     for i in 0..count {
         let factor = (work[from + i] % SYMBOL_PLACES) as usize;
-        work[to + i] = symbols::difference(q, work[to + i], products[factor]);
+        work[to + i] = sum_or_difference(q, minus, work[to + i], products[factor]);
     }
 }
 
