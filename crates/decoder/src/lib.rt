@@ -18,7 +18,7 @@ pub enum Decoded {
 }
 
 // Decodes a full row of symbols: votes, encodes the votes again, and accepts what is within reach.
-fn decode_row(
+pub fn decode_row(
     code: Code,
     row: &[u8],
     work: &mut [u8],
