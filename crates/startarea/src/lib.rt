@@ -102,14 +102,8 @@ fn subtract_column(table: &[u8], work: &mut [u8], q: usize, row: &[u8], a: usize
 {
     let sums = column_sums(table, q, row, a);
     let powers = symbols::products_in(table, q, a as u8);
-    let values = add_part(
-        [0u8; MOST_SYMBOLS],
-        q,
-        q * q,
-        powers,
-        1,
-        symbols::difference(q, 0, 1),
-    );
+    let minus_one = symbols::difference(q, 0, 1);
+    let values = add_part([0u8; MOST_SYMBOLS], q, q * q, powers, 1, minus_one);
     for j in 0..q {
         let products = symbols::products_in(table, q, sums[j]);
         let to = workarea::row_place(q, q, q + j);
