@@ -2,6 +2,7 @@
 use curve::Code;
 use curve::Named;
 use refusals::Refusal;
+use symbols::MOST_POINTS;
 ghost use mathlib.Core.Path.{_≡_};
 ghost use Rattle.published.specs.Picture.{areaSize};
 ghost use Rattle.decoder.specs.Decoding.{decoded, decodeAnswer, decodeWork, decodeMessage, decodeCorrected};
@@ -17,7 +18,7 @@ pub enum Decoded {
 }
 
 // Decodes a full row of symbols: votes, encodes the votes again, and accepts what is within reach.
-fn decode_row(
+pub fn decode_row(
     code: Code,
     row: &[u8],
     work: &mut [u8],
@@ -33,9 +34,9 @@ fn decode_row(
 {
     let n = code.n;
     let k = code.k;
-    let mut votes = [0u8; 64];
+    let mut votes = [0u8; MOST_POINTS];
     voting::vote_all(code, row, work, &mut votes);
-    let mut sent = [0u8; 64];
+    let mut sent = [0u8; MOST_POINTS];
     let count = judging::judge(code, &votes[..k], row, &mut sent);
     if code.reach < count {
         return Decoded::Refused(Refusal::BeyondReach);

@@ -50,16 +50,6 @@ pub passes-both : {cs ds : List Check} → Passes cs → Passes ds → Passes (c
 passes-both done ps = ps
 passes-both (clear h p) ps = clear h (passes-both p ps)
 
-pub refuses-split : (cs : List Check) {ds : List Check} {why : Refusal} → Refuses (cs ++ ds) why → Refuses cs why ⊎ (Passes cs × Refuses ds why)
-refuses-split [] r = inr (done, r)
-refuses-split (c ∷ cs) (here h) = inl (here h)
-refuses-split (c ∷ cs) (later h r) = go h (refuses-split cs r)
-  where
-    go : {ds : List Check} {why : Refusal} → c .holds ≡ false → Refuses cs why ⊎ (Passes cs × Refuses ds why)
-        → Refuses (c ∷ cs) why ⊎ (Passes (c ∷ cs) × Refuses ds why)
-    go h (inl r) = inl (later h r)
-    go h (inr r) = inr (clear h (r .0), r .1)
-
 pub passes-split : (cs : List Check) {ds : List Check} → Passes (cs ++ ds) → Passes cs × Passes ds
 passes-split [] p = (done, p)
 passes-split (c ∷ cs) (clear h p) = let rest = passes-split cs p in (clear h (rest .0), rest .1)

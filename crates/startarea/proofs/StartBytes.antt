@@ -10,6 +10,7 @@ use lib.ListN.{getD, set, drop, replicate, length-replicate, getD-replicate}
 use Rattle.lists.specs.Tables.{put}
 use Rattle.lists.proofs.Put.{put-none, put-more, put-same, put-out, put-kept, put-parts}
 use Rattle.lists.proofs.Grid.{grid, row-within, grid-is}
+use Rattle.symbols.specs.Sizes.{mostArea}
 use Rattle.symbols.specs.Rule.{Known, Sym, number}
 use Rattle.symbols.proofs.FieldLaws.{laws-of}
 use Rattle.published.specs.Start.{width}
@@ -50,7 +51,7 @@ values-more q l w to values products i e =
     rw (e, here) (put-more l to i f)
 
 -- the places of the three symbols of the first polynomials
-pub firsts-fit : {q n : ℕ} → Area q n → (rowPlace q q 0 < n) × (rowPlace q 0 q + 1 < n) × (rowPlace q 0 q + q * q < n) × (rowPlace q 0 q + q * q ≤ 1472)
+pub firsts-fit : {q n : ℕ} → Area q n → (rowPlace q q 0 < n) × (rowPlace q 0 q + 1 < n) × (rowPlace q 0 q + q * q < n) × (rowPlace q 0 q + q * q ≤ mostArea)
 firsts-fit {q} area =
     let some = area .some in
     let f = row-fits q 0 area (omega arith) (omega arith) in

@@ -16,6 +16,7 @@ use Rattle.algebra.proofs.Ring.{ring, mul-add}
 use Rattle.algebra.proofs.Sums.{sum-suc, sum-zero, sum-cong, sum-none, sum-mul, sum-rows}
 use Rattle.lists.specs.Tables.{put}
 use Rattle.lists.proofs.Numbers.{lt-or-ge, row-fits}
+use Rattle.symbols.specs.Sizes.{mostSymbols, mostPoints}
 use Rattle.symbols.specs.Rule.{differenceOf, Known, symbols, number, symbol}
 use Rattle.symbols.specs.Tables.{productRow, Holds}
 use Rattle.symbols.proofs.FieldLaws.{laws-of}
@@ -45,14 +46,14 @@ module _ (q : ℕ) (known : Known q) where
   holds-cong e held = record { at = λ i h. held .at i h ∙ ap (number q) (e i h) }
 
   -- zeros hold the function that is zero
-  pub holds-zeros : (n : ℕ) {F : ℕ → K} → n ≤ 16 → ((i : ℕ) → F i ≡ 𝟘) → Holds q (replicate 16 0) n F
+  pub holds-zeros : (n : ℕ) {F : ℕ → K} → n ≤ mostSymbols → ((i : ℕ) → F i ≡ 𝟘) → Holds q (replicate mostSymbols 0) n F
   holds-zeros n few zero =
-      record { at = λ i h. getD-replicate 16 i 0 0 (omega arith) ∙ sym (ap (number q) (zero i) ∙ laws-of q known .number-zero) }
+      record { at = λ i h. getD-replicate mostSymbols i 0 0 (omega arith) ∙ sym (ap (number q) (zero i) ∙ laws-of q known .number-zero) }
 
   -- ---- the points above one x
 
   -- the place of their symbols in the row
-  pub point-place : (a b : ℕ) → a < q * q → b < q → (a * q + b < pointCount q) × (a * q + b < 64)
+  pub point-place : (a b : ℕ) → a < q * q → b < q → (a * q + b < pointCount q) × (a * q + b < mostPoints)
   unfolding pointCount
   point-place a b ha hb = let fits = row-fits q ha in let small = cube-small q known in (omega arith, omega arith)
 
@@ -72,7 +73,7 @@ module _ (q : ℕ) (known : Known q) where
 
   -- the part in x, from its making
   pub x-values : (a : K) (values : List ℕ)
-      → ((F : ℕ → K) → Holds q (replicate 16 0) (q * q) F → Holds q values (q * q) (plusPart q (q * q) a (symbol q 1) (symbol q (differenceOf q 0 1)) F))
+      → ((F : ℕ → K) → Holds q (replicate mostSymbols 0) (q * q) F → Holds q values (q * q) (plusPart q (q * q) a (symbol q 1) (symbol q (differenceOf q 0 1)) F))
       → Holds q values (q * q) (xPart (symbols q) q a)
   x-values a values make = holds-cong (λ i h. x-part a i) (make (λ k. 𝟘) (holds-zeros (q * q) (sizes q known .square-few) (λ i. refl)))
 
@@ -125,7 +126,7 @@ module _ (q : ℕ) (known : Known q) where
         wide : q * q < width q
         wide = sizes q known .wide
 
-        product : (i : ℕ) → i < q * q → getD (productRow q b) (getD values i 0 % 16) 0 ≡ number q (columnSum q row a q j ⊗ xPart (symbols q) q (symbol q a) i)
+        product : (i : ℕ) → i < q * q → getD (productRow q b) (getD values i 0 % mostSymbols) 0 ≡ number q (columnSum q row a q j ⊗ xPart (symbols q) q (symbol q a) i)
         product i h =
             rw (held .at i h)
             (multiplies q b known .at (xPart (symbols q) q (symbol q a) i)

@@ -13,6 +13,7 @@ use Rattle.algebra.specs.Interpolation.{unit}
 use Rattle.algebra.proofs.Ring.{ring, mul-one}
 use Rattle.algebra.proofs.Powers.{power-zero, power-suc}
 use Rattle.lists.proofs.Numbers.{lt-or-ge, same-or-not}
+use Rattle.symbols.specs.Sizes.{mostSymbols}
 use Rattle.symbols.specs.Rule.{Known, Sym, sumOf, symbols, number}
 use Rattle.symbols.proofs.FieldLaws.{laws-of}
 use Rattle.symbols.proofs.Bytes.{number-of-sum}
@@ -73,7 +74,7 @@ module _ (q : ℕ) (known : Known q) where
 
     -- the next term is the product of this one by a
     pub term-more : (products : List ℕ) (i b : ℕ) → Multiplies q products a → 0 < i → i ≤ n → b ≡ number q (ρ ⊗ power (symbols q) a (n - i))
-        → getD products (b % 16) 0 ≡ number q (ρ ⊗ power (symbols q) a (n - (i - 1)))
+        → getD products (b % mostSymbols) 0 ≡ number q (ρ ⊗ power (symbols q) a (n - (i - 1)))
     term-more products i b m some low is =
         let next : suc (n - i) ≡ n - (i - 1) = omega arith in
         rw is

@@ -10,6 +10,7 @@ use lib.ListN.{getD}
 use Rattle.algebra.specs.Symbols.{Symbols, power, sum}
 use Rattle.algebra.specs.Interpolation.{unit, xPart, yPart}
 use Rattle.lists.specs.Tables.{put}
+use Rattle.symbols.specs.Sizes.{mostSymbols}
 use Rattle.symbols.specs.Rule.{differenceOf, symbols}
 use Rattle.curve.specs.Points.{pointAt}
 use Rattle.published.specs.Start.{width, vanishing, one, startPart}
@@ -18,7 +19,7 @@ use Rattle.substitution.specs.Products.{productAdded}
 
 -- the byte at `to` minus a value times what `products` is the table row of
 abbrev pub minusValue : ℕ → List ℕ → ℕ → List ℕ → List ℕ → ℕ → ℕ
-minusValue q l to values products i = differenceOf q (getD l (to + i) 0) (getD products (getD values i 0 % 16) 0)
+minusValue q l to values products i = differenceOf q (getD l (to + i) 0) (getD products (getD values i 0 % mostSymbols) 0)
 
 -- the n bytes from `to` on with a multiple of the values subtracted
 unfoldable pub minusValues : ℕ → List ℕ → ℕ → ℕ → List ℕ → List ℕ → List ℕ

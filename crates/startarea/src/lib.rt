@@ -1,11 +1,14 @@
 // The polynomials before the first step: h by interpolation, g_0 and f_0, and their products by the powers of y.
 use substitution::Part;
 use substitution::Powers;
+use symbols::MOST_SYMBOLS;
+use symbols::SYMBOL_PLACES;
 ghost use mathlib.Core.Path.{_≡_};
 ghost use mathlib.Core.Bool.{false};
 ghost use mathlib.Core.List.{List, _++_, map};
 ghost use Prim.Native.Nat.{ℕ, _+_, _*_, _<_, _≤_};
 ghost use lib.ListN.{length, drop};
+ghost use Rattle.symbols.specs.Sizes.{mostSymbols};
 ghost use Rattle.symbols.specs.Rule.{Known, Sym, symbols, symbol, anyBeyond};
 ghost use Rattle.symbols.specs.Tables.{productRow, HasProducts};
 ghost use Rattle.curve.specs.Codes.{pointCount};
@@ -30,15 +33,15 @@ fn put_firsts(work: &mut [u8], q: usize)
 // Adds `constant` and `factor` times Σ x^i·a^(n-1-i) to a sum of powers of x below n, by the products of a. Going down, the
 // powers of a rise.
 fn add_part(
-    sums: [u8; 16],
+    sums: [u8; MOST_SYMBOLS],
     q: usize,
     n: usize,
-    products: [u8; 16],
+    products: [u8; MOST_SYMBOLS],
     constant: u8,
     factor: u8,
-) -> [u8; 16]
+) -> [u8; MOST_SYMBOLS]
     requires { ⌜ Known q ⌝ }
-    requires { ⌜ (0 < n) × (n ≤ 16) × (constant < q * q) × (factor < q * q) ⌝ }
+    requires { ⌜ (0 < n) × (n ≤ mostSymbols) × (constant < q * q) × (factor < q * q) ⌝ }
     ensures { λ r. ⌜ ((a : ℕ) (F : ℕ → Sym q) → products ≡ productRow q a → Holds q sums n F → Holds q r n (plusPart q n (symbol q a) (symbol q constant) (symbol q factor) F)) ⌝ }
 {
     let mut result = sums;
@@ -47,21 +50,21 @@ fn add_part(
     while 0 < i {
         i -= 1;
         result[i] = symbols::sum(q, result[i], term);
-        term = products[(term % 16) as usize];
+        term = products[(term % SYMBOL_PLACES) as usize];
     }
     result[0] = symbols::sum(q, result[0], constant);
     result
 }
 
 // The received symbols above the x with number a, times the parts in y of their points.
-fn column_sums(table: &[u8], q: usize, row: &[u8], a: usize) -> [u8; 16]
+fn column_sums(table: &[u8], q: usize, row: &[u8], a: usize) -> [u8; MOST_SYMBOLS]
     requires { ⌜ Known q ⌝ }
     requires { ⌜ (length (now row) ≡ pointCount q) × (anyBeyond q (now row) ≡ false) × HasProducts q (now table) ⌝ }
     requires { ⌜ a < q * q ⌝ }
     ensures { λ r. ⌜ Holds q r q (columnSum q (now (row .entry)) a q) ⌝ }
 {
     let ordinates = curve::ordinates(q, symbols::products_in(table, q, a as u8));
-    let mut sums = [0u8; 16];
+    let mut sums = [0u8; MOST_SYMBOLS];
     for b in 0..q {
         let products = symbols::products_in(table, q, ordinates[b]);
         let received = row[a * q + b];
@@ -77,14 +80,14 @@ fn subtract_values(
     q: usize,
     to: usize,
     n: usize,
-    values: [u8; 16],
-    products: [u8; 16],
+    values: [u8; MOST_SYMBOLS],
+    products: [u8; MOST_SYMBOLS],
 )
-    requires { ⌜ (to + n ≤ length (now work)) × (n ≤ 16) ⌝ }
+    requires { ⌜ (to + n ≤ length (now work)) × (n ≤ mostSymbols) ⌝ }
     ensures { λ _. ⌜ now (work .exit) ≡ minusValues q (now (work .entry)) to n values products ⌝ }
 {
     for i in 0..n {
-        let factor = (values[i] % 16) as usize;
+        let factor = (values[i] % SYMBOL_PLACES) as usize;
         work[to + i] = symbols::difference(q, work[to + i], products[factor]);
     }
 }
@@ -99,7 +102,8 @@ fn subtract_column(table: &[u8], work: &mut [u8], q: usize, row: &[u8], a: usize
 {
     let sums = column_sums(table, q, row, a);
     let powers = symbols::products_in(table, q, a as u8);
-    let values = add_part([0u8; 16], q, q * q, powers, 1, symbols::difference(q, 0, 1));
+    let minus_one = symbols::difference(q, 0, 1);
+    let values = add_part([0u8; MOST_SYMBOLS], q, q * q, powers, 1, minus_one);
     for j in 0..q {
         let products = symbols::products_in(table, q, sums[j]);
         let to = workarea::row_place(q, q, q + j);

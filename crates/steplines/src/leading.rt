@@ -2,9 +2,11 @@
 use report::put_step;
 use stepvotes::is_voted;
 use stepvotes::leading_of;
+use symbols::MOST_POLYNOMIALS;
 ghost use mathlib.Core.Path.{_≡_};
 ghost use Prim.Native.Nat.{_+_, _*_, _≤_, _<_};
 ghost use lib.ListN.{length, take};
+ghost use Rattle.symbols.specs.Sizes.{mostQ};
 ghost use Rattle.symbols.specs.Rule.{symbols};
 ghost use Rattle.published.specs.Start.{Polynomials, startWeight};
 ghost use Rattle.workarea.specs.Area.{Area, Starts, cellsOf};
@@ -15,7 +17,7 @@ ghost use Rattle.steplines.specs.Walk.{leader as leaderOf, Shown};
 
 // Which polynomial has its leading term in row r: f_r in an upper row, g_(r-q) in a lower one.
 fn leader(q: usize, r: usize) -> usize
-    requires { ⌜ (q ≤ 4) × (r < 2 * q) ⌝ }
+    requires { ⌜ (q ≤ mostQ) × (r < 2 * q) ⌝ }
     ensures { λ p. ⌜ (p ≡ leaderOf q r) × (p < 2 * q) ⌝ }
 {
     if r < q { q + r } else { r - q }
@@ -49,7 +51,7 @@ pub fn put_step_line(
     ensures { λ r. ⌜ ((state : State (symbols q) q) → Starts q (now (work .entry)) (cellsOf q (state .polys)) → vote ≡ voteAt q s state
         → Wrote (now (out .entry)) at (stepLine q u s state) (now (out .exit)) r) ⌝ }
 {
-    let mut degrees = [0u8; 8];
+    let mut degrees = [0u8; MOST_POLYNOMIALS];
     read_degrees(work, q, &mut degrees);
     let count = 2 * q;
     put_step(out, at, s, is_voted(q, u, s), vote, &degrees[..count])

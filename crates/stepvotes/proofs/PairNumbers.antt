@@ -1,11 +1,13 @@
 -- The numbers that the code finds for a pair are those of the definition.
 -- Assumes nothing.
-use mathlib.Core.Path.{_≡_, refl, sym, ap, _∙_}
+use mathlib.Core.Path.{_≡_, sym, ap, _∙_}
 use mathlib.Core.Bool.{true, false}
 use Prim.Native.Nat.{ℕ, _+_, _*_, _%_}
 use lib.IntN.{ℤ, pos, _-ℤ_}
 use Rattle.algebra.specs.Symbols.{Symbols}
-use Rattle.symbols.specs.Rule.{Known, symbols, Sym, number, symbol}
+use Rattle.algebra.proofs.Ring.{sub-def, zero-add}
+use Rattle.symbols.specs.Rule.{Known, differenceOf, symbols, Sym, number, symbol}
+use Rattle.symbols.proofs.Bytes.{number-of-negative}
 use Rattle.symbols.proofs.FieldLaws.{laws-of}
 use Rattle.published.specs.Start.{Polynomials, coefficient, width}
 use Rattle.published.specs.Pairing.{Pairing, degree, degreeOf, degreeF, degreeG, leadF, leadG, kOf, partnerOf, isNegative, isVoted, positivePart, looked, inVotedStep, inUnvotedStep, pairing}
@@ -49,10 +51,11 @@ quotient-is q known r a m n α β ea em en er =
     let back = laws-of q known .symbol-number in
     er ∙ (rw (en, ea, em, back α, back β, back (symbols q .inverse β)))
 
--- minus is no other function than the symbol itself
-minus-same : (q : ℕ) (a : Sym q) → symbols q .minus a ≡ a
-unfolding symbols
-minus-same q a = refl
+-- 0 less a symbol's number is the number of its negative
+pub negative-is : (q : ℕ) → Known q → (a : Sym q) → differenceOf q 0 (number q a) ≡ number q (symbols q .minus a)
+negative-is q known a =
+    let 𝓛 = laws-of q known in
+    number-of-negative q known a ∙ ap (number q) (sub-def 𝓛 (symbols q .𝟘) a ∙ zero-add 𝓛 (symbols q .minus a))
 
 -- the coefficient looked at is a cell
 pub looked-cell : (q : ℕ) (S : Polynomials (symbols q) q) (i partner : ℕ) (k : ℤ)
@@ -63,7 +66,7 @@ looked-cell q S i partner k = lower-cell q S (q + i) partner (positivePart k)
 -- what the code gives for w_i and μ_i, by the kind of the step and the sign of k
 module _ (q : ℕ) (known : Known q) (k : ℤ) (named : NamedSymbol) (b : Sym q) where
   infixl 70 _⊗_
-  open Symbols (symbols q) using (_⊗_, inverse)
+  open Symbols (symbols q) using (minus, _⊗_, inverse)
 
   pub voted-negative : (μ : Sym q) → isNegative k ≡ true → named .w ≡ 0 → named .mu ≡ 1 → NamedAs q named (inVotedStep (symbols q) q k b μ)
   unfolding inVotedStep
@@ -72,10 +75,10 @@ module _ (q : ℕ) (known : Known q) (k : ℤ) (named : NamedSymbol) (b : Sym q)
     μ = em ∙ (rw t (sym (laws-of q known .number-one)));
   }
 
-  pub voted-whole : (μ : Sym q) → isNegative k ≡ false → named .w ≡ number q (b ⊗ inverse μ) → named .mu ≡ number q μ
+  pub voted-whole : (μ : Sym q) → isNegative k ≡ false → named .w ≡ number q (minus b ⊗ inverse μ) → named .mu ≡ number q μ
       → NamedAs q named (inVotedStep (symbols q) q k b μ)
   unfolding inVotedStep
-  voted-whole μ t ew em = record { w = ew ∙ (rw (t, minus-same q b)); μ = em ∙ (rw t) }
+  voted-whole μ t ew em = record { w = ew ∙ (rw t); μ = em ∙ (rw t) }
 
   pub unvoted-negative : isNegative k ≡ true → named .w ≡ 0 → named .mu ≡ 1 → NamedAs q named (inUnvotedStep (symbols q) q k b)
   unfolding inUnvotedStep
@@ -84,9 +87,9 @@ module _ (q : ℕ) (known : Known q) (k : ℤ) (named : NamedSymbol) (b : Sym q)
     μ = em ∙ sym (laws-of q known .number-one);
   }
 
-  pub unvoted-whole : isNegative k ≡ false → named .w ≡ number q b → named .mu ≡ 1 → NamedAs q named (inUnvotedStep (symbols q) q k b)
+  pub unvoted-whole : isNegative k ≡ false → named .w ≡ number q (minus b) → named .mu ≡ 1 → NamedAs q named (inUnvotedStep (symbols q) q k b)
   unfolding inUnvotedStep
-  unvoted-whole t ew em = record { w = ew ∙ (rw (t, minus-same q b)); μ = em ∙ sym (laws-of q known .number-one) }
+  unvoted-whole t ew em = record { w = ew ∙ (rw t); μ = em ∙ sym (laws-of q known .number-one) }
 
 module _ (q : ℕ) (S : Polynomials (symbols q) q) (u s i : ℕ) (f g : RowLead) (ef : LeadingOf q f (cellsOf q S (q + i) i))
     (eg : LeadingOf q g (cellsOf q S ((q * f .degree + (q + 1) * i + s) % q) (q + (q * f .degree + (q + 1) * i + s) % q))) where

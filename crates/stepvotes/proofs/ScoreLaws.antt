@@ -14,6 +14,7 @@ use borrow.Author.Tests.{eq-eqb, ne-eqb}
 use Rattle.lists.specs.Tables.{from, tab}
 use Rattle.lists.proofs.Numbers.{same-or-not}
 use Rattle.lists.proofs.Tables.{tab-more}
+use Rattle.symbols.specs.Sizes.{mostShift}
 use Rattle.symbols.specs.Rule.{symbols, number}
 use Rattle.published.specs.Pairing.{Pairing, positivePart, score}
 
@@ -69,8 +70,8 @@ module _ (q : ℕ) where
       miss ne = rw (ne-eqb (number q (P i .w)) a (λ e. ne (ew ∙ e)))
 
 -- the scores stay small
-pub bounded-more : (scores : List ℕ) (w gain most : ℕ) → w < length scores → gain ≤ 2000 → ((a : ℕ) → getD scores a 0 ≤ most)
-    → (a : ℕ) → getD (set scores w (getD scores w 0 + gain)) a 0 ≤ most + 2000
+pub bounded-more : (scores : List ℕ) (w gain most : ℕ) → w < length scores → gain ≤ mostShift → ((a : ℕ) → getD scores a 0 ≤ most)
+    → (a : ℕ) → getD (set scores w (getD scores w 0 + gain)) a 0 ≤ most + mostShift
 bounded-more scores w gain most h few old a =
     ⊎-elim
     (λ (e : a ≡ w). rw (e, getD-set-same scores w (getD scores w 0 + gain) 0 h) (omega (arith, old w)))

@@ -13,6 +13,7 @@ use borrow.Author.Tests.{le-leb, lt-ltb, le-ltb, ltb-true, ltb-false}
 use mir.Syntax.{w64}
 use mir.Val.{Fits, SFits, toZ, ofZ}
 use mir.ValLaws.{toZ-ofZ}
+use Rattle.symbols.specs.Sizes.{mostQ, mostDegree, mostShift}
 use Rattle.symbols.specs.Rule.{Known}
 use Rattle.published.specs.Pairing.{kOf, positivePart, negativePart, isNegative}
 use Rattle.workarea.proofs.Sizes.{sizes}
@@ -79,13 +80,13 @@ quotient-exact q m n x y h e = go (ltb m n) refl
 -- how large the numbers of the division are
 pub record Divided (q total : ℕ) : Type 0 where
   pub some : 0 < q
-  pub few : q ≤ 4
-  pub small : total ≤ 1000
+  pub few : q ≤ mostQ
+  pub small : total ≤ mostDegree
   pub part : total % q < q
-  pub low : (q + 1) * (total % q) ≤ 20
-  pub up : total / q ≤ 1000
+  pub low : (q + 1) * (total % q) ≤ (mostQ + 1) * mostQ
+  pub up : total / q ≤ mostDegree
 
-pub divided : (q total : ℕ) → Known q → total ≤ 1000 → Divided q total
+pub divided : (q total : ℕ) → Known q → total ≤ mostDegree → Divided q total
 divided q total known h =
     let s = sizes q known in
     let m = mod-lt total {m = q} (omega arith) in
@@ -94,7 +95,7 @@ divided q total known h =
       few = s .few;
       small = h;
       part = m;
-      low = mul-le-mul {n₁ = q + 1} {m₁ = total % q} {n₂ = 5} {m₂ = 4} (omega arith) (omega arith);
+      low = mul-le-mul {n₁ = q + 1} {m₁ = total % q} {n₂ = mostQ + 1} {m₂ = mostQ} (omega arith) (omega arith);
       up = omega (arith, div-le-self total q);
     }
 
@@ -116,32 +117,32 @@ module _ (q total : ℕ) (d : Divided q total) where
   k-value = toZ-ofZ w64 _ k-fits ∙ is-k
 
   -- k is small
-  pub k-small : natAbs (kOf q total) ≤ 1000
+  pub k-small : natAbs (kOf q total) ≤ mostDegree
   unfolding kOf
   k-small = go (ltb (total / q) (total % q))
     where
-      go : (t : Bool) → natAbs (cond t (negsuc (total % q - suc (total / q))) (pos (total / q - total % q))) ≤ 1000
+      go : (t : Bool) → natAbs (cond t (negsuc (total % q - suc (total / q))) (pos (total / q - total % q))) ≤ mostDegree
       go true = omega arith
       go false = omega arith
 
 -- a small integer fits, and its bits are it again
-pub small-fits : (z : ℤ) → natAbs z ≤ 2000 → SFits w64 z
+pub small-fits : (z : ℤ) → natAbs z ≤ mostShift → SFits w64 z
 small-fits (pos n) h = record { sfits = omega arith }
 small-fits (negsuc n) h = record { sfits = omega arith }
 
-pub back : (z : ℤ) → natAbs z ≤ 2000 → toZ w64 (ofZ w64 z) ≡ z
+pub back : (z : ℤ) → natAbs z ≤ mostShift → toZ w64 (ofZ w64 z) ≡ z
 back z h = toZ-ofZ w64 z (small-fits z h)
 
-module _ (d : ℕ) (z : ℤ) (hd : d ≤ 1000) (hz : natAbs z ≤ 1000) where
+module _ (d : ℕ) (z : ℤ) (hd : d ≤ mostDegree) (hz : natAbs z ≤ mostDegree) where
   -- a number less a small integer is small
-  pub less-small : natAbs (pos d -ℤ z) ≤ 2000
+  pub less-small : natAbs (pos d -ℤ z) ≤ mostShift
   unfolding difference
   less-small = go z hz
     where
-      go : (y : ℤ) → natAbs y ≤ 1000 → natAbs (pos d -ℤ y) ≤ 2000
+      go : (y : ℤ) → natAbs y ≤ mostDegree → natAbs (pos d -ℤ y) ≤ mostShift
       go (pos n) h = rw (pos-sub d n) (part (ltb d n) refl)
         where
-          part : (t : Bool) → ltb d n ≡ t → natAbs (cond t (negsuc (n - suc d)) (pos (d - n))) ≤ 2000
+          part : (t : Bool) → ltb d n ≡ t → natAbs (cond t (negsuc (n - suc d)) (pos (d - n))) ≤ mostShift
           part true e = omega (arith, ltb-true d n e)
           part false e = omega arith
       go (negsuc n) h = omega arith
@@ -182,7 +183,7 @@ whole-no (pos n) t = absurd (true≢false (sym (le-leb 0 n (omega arith)) ∙ t)
 whole-no (negsuc n) t = refl
 
 -- an integer that is not negative can be cast to a number
-pub cast-fits : (z : ℤ) → natAbs z ≤ 2000 → z ≡ pos (positivePart z) → T (nonNeg z) × Fits w64 (natAbs z)
+pub cast-fits : (z : ℤ) → natAbs z ≤ mostShift → z ≡ pos (positivePart z) → T (nonNeg z) × Fits w64 (natAbs z)
 unfolding positivePart
 cast-fits (pos n) h e = (tt, omega arith)
 cast-fits (negsuc n) h e = let y : _≡_ {A = ℕ} 0 1 = cc in absurd (omega arith)
@@ -212,7 +213,7 @@ positive-small (pos n) = omega arith
 positive-small (negsuc n) = omega arith
 
 -- -c, where c is not positive
-module _ (z : ℤ) (h : natAbs z ≤ 2000) (d : Unraised z) where
+module _ (z : ℤ) (h : natAbs z ≤ mostShift) (d : Unraised z) where
   minus-is : pos 0 -ℤ toZ w64 (ofZ w64 z) ≡ pos (negativePart z)
   minus-is = rw (back z h) (d .shift)
 

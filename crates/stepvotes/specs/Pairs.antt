@@ -5,6 +5,7 @@ use mathlib.Core.List.{List}
 use Prim.Native.Nat.{ℕ, _<_, _≤_}
 use lib.IntN.{pos, natAbs}
 use lib.ListN.{getD}
+use Rattle.symbols.specs.Sizes.{mostShift}
 use Rattle.symbols.specs.Rule.{symbols, number}
 use Rattle.published.specs.Pairing.{Pairing, Naming}
 use Rattle.stepvotes.specs.declared.pairs.Pair.{Pair}
@@ -13,7 +14,7 @@ use Rattle.stepvotes.specs.declared.pairs.NamedSymbol.{NamedSymbol}
 -- the bounds that the code relies on
 pub record Held (q : ℕ) (pair : Pair) : Type 0 where
   pub partner : pair .partner < q
-  pub c : natAbs (pair .c) ≤ 2000
+  pub c : natAbs (pair .c) ≤ mostShift
 
 -- the numbers of w_i and μ_i
 pub record NamedAs (q : ℕ) (named : NamedSymbol) (N : Naming (symbols q) q) : Type 0 where

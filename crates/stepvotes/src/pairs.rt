@@ -1,10 +1,12 @@
 // The numbers of the q pairs at a step: i', c, w_i, μ_i and ν, with k and c signed.
 use crate::reading;
+use symbols::MOST_Q;
 ghost use mathlib.Core.Path.{_≡_};
 ghost use mathlib.Core.Bool.{false};
 ghost use Prim.Native.Nat.{ℕ, _≤_, _<_};
 ghost use lib.IntN.{natAbs};
 ghost use lib.ListN.{length};
+ghost use Rattle.symbols.specs.Sizes.{mostWeight, mostDegree};
 ghost use Rattle.symbols.specs.Rule.{Known, Sym, symbols, number};
 ghost use Rattle.symbols.specs.Tables.{HasProducts};
 ghost use Rattle.published.specs.Start.{Polynomials};
@@ -31,7 +33,7 @@ struct NamedSymbol {
 // k, where total = qk + (q+1)i' with i' = total mod q: an exact division of a difference that may be negative.
 fn quotient_of(q: usize, total: usize) -> i64
     requires { ⌜ Known q ⌝ }
-    requires { ⌜ total ≤ 1000 ⌝ }
+    requires { ⌜ total ≤ mostDegree ⌝ }
     ensures { λ k. ⌜ k ≡ kOf q total ⌝ }
 {
     let low = (q + 1) * curve::remainder(q, total);
@@ -43,17 +45,18 @@ fn quotient_of(q: usize, total: usize) -> i64
     }
 }
 
-// b, which f_i has at x^k y^i' in its lower part, for a k that is not negative.
-fn looked_at(work: &[u8], q: usize, i: usize, partner: usize, k: i64) -> u8
+// -b, where f_i has b at x^k y^i' in its lower part, for a k that is not negative.
+fn negative_at(work: &[u8], q: usize, i: usize, partner: usize, k: i64) -> u8
     requires { ⌜ Area q (length (now work)) ⌝ }
-    requires { ⌜ (i < q) × (partner < q) × (natAbs k ≤ 1000) × (isNegative k ≡ false) ⌝ }
-    ensures { λ b. ⌜ ((S : Polynomials (symbols q) q) → Narrow q (cellsOf q S) → Starts q (now (work .entry)) (cellsOf q S)
-        → b ≡ number q (looked (symbols q) q S i partner k)) ⌝ }
+    requires { ⌜ (i < q) × (partner < q) × (natAbs k ≤ mostDegree) × (isNegative k ≡ false) ⌝ }
+    ensures { λ r. ⌜ ((S : Polynomials (symbols q) q) → Narrow q (cellsOf q S) → Starts q (now (work .entry)) (cellsOf q S)
+        → r ≡ number q (symbols q .minus (looked (symbols q) q S i partner k))) ⌝ }
 {
-    reading::coefficient_at(work, q, q + i, q + partner, k as usize)
+    let b = reading::coefficient_at(work, q, q + i, q + partner, k as usize);
+    symbols::difference(q, 0, b)
 }
 
-// w_i and μ_i in a step that votes, where `lead` is the leading coefficient of f_i. In these fields -b is b.
+// w_i and μ_i in a step that votes, where `lead` is the leading coefficient of f_i.
 fn in_voted_step(
     table: &[u8],
     work: &[u8],
@@ -64,14 +67,14 @@ fn in_voted_step(
     lead: u8,
 ) -> NamedSymbol
     requires { ⌜ Area q (length (now work)) × HasProducts q (now table) ⌝ }
-    requires { ⌜ (i < q) × (partner < q) × (natAbs k ≤ 1000) ⌝ }
+    requires { ⌜ (i < q) × (partner < q) × (natAbs k ≤ mostDegree) ⌝ }
     ensures { λ named. ⌜ ((S : Polynomials (symbols q) q) (μ : Sym q) → Narrow q (cellsOf q S) → Starts q (now (work .entry)) (cellsOf q S)
         → lead ≡ number q μ → NamedAs q named (inVotedStep (symbols q) q k (looked (symbols q) q S i partner k) μ)) ⌝ }
 {
     if 0 <= k {
-        let b = looked_at(work, q, i, partner, k);
+        let negative = negative_at(work, q, i, partner, k);
         return NamedSymbol {
-            w: symbols::product_in(table, q, b, symbols::inverse(q, lead)),
+            w: symbols::product_in(table, q, negative, symbols::inverse(q, lead)),
             mu: lead,
         };
     }
@@ -81,7 +84,7 @@ fn in_voted_step(
 // w_i and μ_i in a step that does not.
 fn in_unvoted_step(work: &[u8], q: usize, i: usize, partner: usize, k: i64) -> NamedSymbol
     requires { ⌜ Area q (length (now work)) ⌝ }
-    requires { ⌜ (i < q) × (partner < q) × (natAbs k ≤ 1000) ⌝ }
+    requires { ⌜ (i < q) × (partner < q) × (natAbs k ≤ mostDegree) ⌝ }
     ensures { λ named. ⌜ ((S : Polynomials (symbols q) q) → Narrow q (cellsOf q S) → Starts q (now (work .entry)) (cellsOf q S)
         → NamedAs q named (inUnvotedStep (symbols q) q k (looked (symbols q) q S i partner k))) ⌝ }
 {
@@ -89,7 +92,7 @@ fn in_unvoted_step(work: &[u8], q: usize, i: usize, partner: usize, k: i64) -> N
         return NamedSymbol { w: 0, mu: 1 };
     }
     NamedSymbol {
-        w: looked_at(work, q, i, partner, k),
+        w: negative_at(work, q, i, partner, k),
         mu: 1,
     }
 }
@@ -106,7 +109,7 @@ fn pair_of(
 ) -> Pair
     requires { ⌜ Area q (length (now work)) ⌝ }
     requires { ⌜ Heights q (now heights) ⌝ }
-    requires { ⌜ (i < q) × (s ≤ 100) × HasProducts q (now table) ⌝ }
+    requires { ⌜ (i < q) × (s ≤ mostWeight) × HasProducts q (now table) ⌝ }
     ensures { λ pair. ⌜ Held q pair ⌝ }
     ensures { λ pair. ⌜ ((S : Polynomials (symbols q) q) (u : ℕ) → Narrow q (cellsOf q S) → WithinHeights q (now (heights .entry)) (cellsOf q S)
         → Starts q (now (work .entry)) (cellsOf q S) → isVoted q u s ≡ voted → NumbersOf q pair (pairing (symbols q) q u s S i)) ⌝ }
@@ -139,10 +142,10 @@ pub fn pairs_of(
     heights: &[usize],
     s: usize,
     voted: bool,
-) -> [Pair; 4]
+) -> [Pair; MOST_Q]
     requires { ⌜ Area q (length (now work)) ⌝ }
     requires { ⌜ Heights q (now heights) ⌝ }
-    requires { ⌜ (s ≤ 100) × HasProducts q (now table) ⌝ }
+    requires { ⌜ (s ≤ mostWeight) × HasProducts q (now table) ⌝ }
     ensures { λ pairs. ⌜ ((i : ℕ) → i < q → Held q (pairAt pairs i)) ⌝ }
     ensures { λ pairs. ⌜ ((S : Polynomials (symbols q) q) (u : ℕ) → Narrow q (cellsOf q S) → WithinHeights q (now (heights .entry)) (cellsOf q S)
         → Starts q (now (work .entry)) (cellsOf q S) → isVoted q u s ≡ voted
@@ -155,7 +158,7 @@ pub fn pairs_of(
         mu: 0,
         nu: 0,
     };
-    let mut pairs = [none; 4];
+    let mut pairs = [none; MOST_Q];
     for i in 0..q {
         let pair = pair_of(table, work, q, heights, i, s, voted);
         pairs[i] = pair;

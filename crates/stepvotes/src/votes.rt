@@ -1,11 +1,15 @@
 // Scores and the vote of a step: the first symbol whose score no other passes.
 use crate::pairs::Pair;
+use symbols::MOST_Q;
+use symbols::MOST_SYMBOLS;
+use symbols::SYMBOL_PLACES;
 ghost use mathlib.Core.Path.{_≡_};
 ghost use mathlib.Core.Bool.{false};
 ghost use Prim.Native.Nat.{ℕ, _*_, _-_, _≤_, _<_};
 ghost use lib.IntN.{natAbs};
 ghost use lib.ListN.{getD};
 ghost use Rattle.lists.specs.Tables.{tab};
+ghost use Rattle.symbols.specs.Sizes.{mostSymbols, mostShift};
 ghost use Rattle.symbols.specs.Rule.{Known, symbols, number};
 ghost use Rattle.published.specs.Pairing.{Pairing, isVoted, positivePart, score, best, vote};
 ghost use Rattle.stepvotes.specs.Pairs.{Held, NumbersOf, pairAt};
@@ -23,7 +27,7 @@ pub fn is_voted(q: usize, u: usize, s: usize) -> bool
 
 // max(c, 0)
 fn positive_part(c: i64) -> usize
-    requires { ⌜ natAbs c ≤ 2000 ⌝ }
+    requires { ⌜ natAbs c ≤ mostShift ⌝ }
     ensures { λ r. ⌜ r ≡ positivePart c ⌝ }
 {
     if 0 < c {
@@ -33,16 +37,16 @@ fn positive_part(c: i64) -> usize
 }
 
 // The score of each symbol: a pair gives its c, if positive, to its w.
-fn scores_of(pairs: [Pair; 4], q: usize) -> [usize; 16]
+fn scores_of(pairs: [Pair; MOST_Q], q: usize) -> [usize; MOST_SYMBOLS]
     requires { ⌜ Known q ⌝ }
     requires { ⌜ ((i : ℕ) → i < q → Held q (pairAt pairs i)) ⌝ }
     ensures { λ scores. ⌜ ((P : ℕ → Pairing (symbols q) q) → ((i : ℕ) → i < q → NumbersOf q (pairAt pairs i) (P i))
-        → (a : ℕ) → a < 16 → getD scores a 0 ≡ score (symbols q) q (tab q P) a) ⌝ }
+        → (a : ℕ) → a < mostSymbols → getD scores a 0 ≡ score (symbols q) q (tab q P) a) ⌝ }
 {
-    let mut scores = [0usize; 16];
+    let mut scores = [0usize; MOST_SYMBOLS];
     for i in 0..q {
         let pair = pairs[i];
-        let w = (pair.w % 16) as usize;
+        let w = (pair.w % SYMBOL_PLACES) as usize;
         let c = pair.c;
         scores[w] = scores[w] + positive_part(c);
     }
@@ -50,10 +54,10 @@ fn scores_of(pairs: [Pair; 4], q: usize) -> [usize; 16]
 }
 
 // The symbol of largest score; only a larger one displaces it, so that the smallest among equals stays.
-fn best_of(scores: [usize; 16], q: usize) -> u8
+fn best_of(scores: [usize; MOST_SYMBOLS], q: usize) -> u8
     requires { ⌜ Known q ⌝ }
     ensures { λ r. ⌜ r < q * q ⌝ }
-    ensures { λ r. ⌜ ((f : ℕ → ℕ) → ((a : ℕ) → a < 16 → getD scores a 0 ≡ f a) → r ≡ best f (q * q - 1)) ⌝ }
+    ensures { λ r. ⌜ ((f : ℕ → ℕ) → ((a : ℕ) → a < mostSymbols → getD scores a 0 ≡ f a) → r ≡ best f (q * q - 1)) ⌝ }
 {
     let mut winner = 0;
     let mut a = 1;
@@ -68,7 +72,7 @@ fn best_of(scores: [usize; 16], q: usize) -> u8
 }
 
 // The vote of a step, 0 for one that does not vote.
-pub fn vote_of(pairs: [Pair; 4], q: usize, voted: bool) -> u8
+pub fn vote_of(pairs: [Pair; MOST_Q], q: usize, voted: bool) -> u8
     requires { ⌜ Known q ⌝ }
     requires { ⌜ ((i : ℕ) → i < q → Held q (pairAt pairs i)) ⌝ }
     ensures { λ r. ⌜ (voted ≡ false → r ≡ 0) ⌝ }

@@ -1,11 +1,15 @@
 // Products by monomials: ρ·x^a·y^b times one part of a polynomial added to another part, and the substitution for z.
 use curve::Monomial;
+use symbols::MOST_SYMBOLS;
+use workarea::MINUS;
+use workarea::PLUS;
 use workarea::Row;
 ghost use mathlib.Core.Path.{_≡_};
 ghost use Prim.Native.Nat.{_+_, _*_, _<_, _≤_};
 ghost use lib.ListN.{length};
 ghost use mathlib.Core.Bool.{false};
 ghost use Rattle.algebra.specs.Weights.{gap};
+ghost use Rattle.symbols.specs.Sizes.{mostQ, mostDegree};
 ghost use Rattle.symbols.specs.Rule.{symbols, Sym, number};
 ghost use Rattle.symbols.specs.Tables.{HasProducts};
 ghost use Rattle.published.specs.Start.{Polynomials};
@@ -34,7 +38,7 @@ struct Source {
 
 // y^q is rewritten as x^(q+1) - y; this is the row that comes by the first, or unchanged.
 fn source_of(q: usize, b: usize, j: usize) -> Source
-    requires { ⌜ (q ≤ 4) × (b < q) × (j < q) ⌝ }
+    requires { ⌜ (q ≤ mostQ) × (b < q) × (j < q) ⌝ }
     ensures { λ r. ⌜ (r .row ≡ sourceRow q b j) × (r .shift ≡ sourceShift q b j) × (r .row < q) × (r .shift ≤ q + 1) ⌝ }
 {
     if b <= j {
@@ -59,11 +63,11 @@ fn add_product_row(
     j: usize,
     height: usize,
     powers: Powers,
-    products: [u8; 16],
+    products: [u8; MOST_SYMBOLS],
 )
     requires { ⌜ Area q (length (now work)) ⌝ }
     requires { ⌜ Apart q to from ⌝ }
-    requires { ⌜ (j < q) × (powers .y < q) × (powers .x ≤ 1000) ⌝ }
+    requires { ⌜ (j < q) × (powers .y < q) × (powers .x ≤ mostDegree) ⌝ }
     ensures { λ _. ⌜ ((ρ : Sym q) → Multiplies q products ρ → Turns q (now (work .entry)) (now (work .exit)) (productRowAdded q to from j height (powers .x) (powers .y) ρ)) ⌝ }
 {
     let a = powers.x;
@@ -77,7 +81,16 @@ fn add_product_row(
         polynomial: from.polynomial,
         row: from.row + source.row,
     };
-    workarea::add_row(work, q, target, main, height, a + source.shift, products);
+    workarea::change_row(
+        work,
+        q,
+        PLUS,
+        target,
+        main,
+        height,
+        a + source.shift,
+        products,
+    );
     if j == 0 {
         return;
     }
@@ -89,7 +102,7 @@ fn add_product_row(
         polynomial: from.polynomial,
         row: from.row + (j + q - b - 1),
     };
-    workarea::subtract_row(work, q, target, round, height, a, products);
+    workarea::change_row(work, q, MINUS, target, round, height, a, products);
 }
 
 // The same in all rows of the part; there is nothing to do where none has a symbol.
@@ -100,11 +113,11 @@ pub fn add_product(
     from: Part,
     height: usize,
     powers: Powers,
-    products: [u8; 16],
+    products: [u8; MOST_SYMBOLS],
 )
     requires { ⌜ Area q (length (now work)) ⌝ }
     requires { ⌜ Apart q to from ⌝ }
-    requires { ⌜ (powers .y < q) × (powers .x ≤ 1000) ⌝ }
+    requires { ⌜ (powers .y < q) × (powers .x ≤ mostDegree) ⌝ }
     ensures { λ _. ⌜ ((ρ : Sym q) → Multiplies q products ρ → Turns q (now (work .entry)) (now (work .exit)) (productAdded q to from height (powers .x) (powers .y) ρ q)) ⌝ }
 {
     if height == 0 {
@@ -117,10 +130,16 @@ pub fn add_product(
 
 // z becomes z + ρ·x^a·y^b for these powers a and b, where `products` is the table row of ρ, in all 2q polynomials, whose upper
 // rows have no more symbols than `heights` says.
-pub fn replace_z(work: &mut [u8], q: usize, heights: &[usize], powers: Powers, products: [u8; 16])
+pub fn replace_z(
+    work: &mut [u8],
+    q: usize,
+    heights: &[usize],
+    powers: Powers,
+    products: [u8; MOST_SYMBOLS],
+)
     requires { ⌜ Area q (length (now work)) ⌝ }
     requires { ⌜ 2 * q ≤ length (now heights) ⌝ }
-    requires { ⌜ (powers .y < q) × (powers .x ≤ 1000) ⌝ }
+    requires { ⌜ (powers .y < q) × (powers .x ≤ mostDegree) ⌝ }
     ensures { λ _. ⌜ ((ρ : Sym q) → Multiplies q products ρ
         → Turns q (now (work .entry)) (now (work .exit)) (replacedZ q (now (heights .entry)) (powers .x) (powers .y) ρ (2 * q))) ⌝ }
 {
@@ -141,7 +160,7 @@ pub fn replace_z(work: &mut [u8], q: usize, heights: &[usize], powers: Powers, p
 pub fn substitute(table: &[u8], work: &mut [u8], q: usize, heights: &[usize], s: usize, vote: u8)
     requires { ⌜ Area q (length (now work)) ⌝ }
     requires { ⌜ 2 * q ≤ length (now heights) ⌝ }
-    requires { ⌜ (s ≤ 1000) × ((vote ≡ 0 → ⊥) → gap q s ≡ false) × HasProducts q (now table) ⌝ }
+    requires { ⌜ (s ≤ mostDegree) × ((vote ≡ 0 → ⊥) → gap q s ≡ false) × HasProducts q (now table) ⌝ }
     ensures { λ _. ⌜ ((S : Polynomials (symbols q) q) (ω : Sym q) → vote ≡ number q ω → WithinHeights q (now (heights .entry)) (cellsOf q S)
         → Becomes q (now (work .entry)) (now (work .exit)) S (substituted (symbols q) q s ω S)) ⌝ }
 {

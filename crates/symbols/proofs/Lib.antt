@@ -7,4 +7,3 @@ mod BinaryField
 pub mod FieldLaws
 pub mod TableRules
 pub mod SymbolLists
-mod Squaring

@@ -1,12 +1,20 @@
-// The symbols of q = 2 and q = 4 as bytes: sums, products, inverses and powers, total on bytes. A byte counts as the symbol of
+// The symbols of q = 2 and q = 4 as bytes: sums, products and inverses, total on bytes. A byte counts as the symbol of
 // its remainder by q².
+mod sizes;
 mod tables;
 
+pub use sizes::MOST_AREA;
+pub use sizes::MOST_POINTS;
+pub use sizes::MOST_POLYNOMIALS;
+pub use sizes::MOST_Q;
+pub use sizes::MOST_SYMBOLS;
+pub use sizes::SYMBOL_PLACES;
+pub use sizes::TABLE_SIZE;
 ghost use mathlib.Core.Path.{_≡_};
 ghost use mathlib.Core.Bool.{not};
 ghost use Prim.Native.Nat.{_+_, _≤_};
 ghost use lib.ListN.{length, replicate};
-ghost use Rattle.algebra.specs.Symbols.{power as powerOf};
+ghost use Rattle.symbols.specs.Sizes.{mostSymbols};
 ghost use Rattle.symbols.specs.Rule.{isKnown, Known, sumOf, differenceOf, symbols, number, symbol, anyBeyond};
 ghost use Rattle.symbols.specs.Tables.{productRow, placesOn, HasProducts};
 ghost use Rattle.lists.specs.Tables.{put};
@@ -43,12 +51,12 @@ pub fn inverse(q: usize, a: u8) -> u8
     }
 }
 
-// The n bytes of a table from a start on, and zeros up to sixteen.
-fn part_of(table: &[u8], start: usize, n: usize) -> [u8; 16]
-    requires { ⌜ (n ≤ 16) × (start + n ≤ length (now table)) ⌝ }
-    ensures { λ r. ⌜ r ≡ put (replicate 16 0) 0 n (placesOn (now (table .entry)) start) ⌝ }
+// The n bytes of a table from a start on, and zeros in the other places of a row.
+fn part_of(table: &[u8], start: usize, n: usize) -> [u8; MOST_SYMBOLS]
+    requires { ⌜ (n ≤ mostSymbols) × (start + n ≤ length (now table)) ⌝ }
+    ensures { λ r. ⌜ r ≡ put (replicate mostSymbols 0) 0 n (placesOn (now (table .entry)) start) ⌝ }
 {
-    let mut row = [0u8; 16];
+    let mut row = [0u8; MOST_SYMBOLS];
     let mut i = 0;
     while i < n {
         row[i] = table[start + i];
@@ -57,21 +65,21 @@ fn part_of(table: &[u8], start: usize, n: usize) -> [u8; 16]
     row
 }
 
-// Sixteen bytes of a table from a start on, copied at once. They are added to zeros: the compiler makes one wide move of such a
+// The places of a row of the largest q, from a start on in its table, copied at once. They are added to zeros: the compiler makes one wide move of such a
 // loop wherever it is used, while it takes a plain copy apart where the row of q = 2 can come in its place.
-fn sixteen_of(table: &[u8], start: usize) -> [u8; 16]
-    requires { ⌜ start + 16 ≤ length (now table) ⌝ }
-    ensures { λ r. ⌜ r ≡ put (replicate 16 0) 0 16 (placesOn (now (table .entry)) start) ⌝ }
+fn whole_row(table: &[u8], start: usize) -> [u8; MOST_SYMBOLS]
+    requires { ⌜ start + mostSymbols ≤ length (now table) ⌝ }
+    ensures { λ r. ⌜ r ≡ put (replicate mostSymbols 0) 0 mostSymbols (placesOn (now (table .entry)) start) ⌝ }
 {
-    let mut row = [0u8; 16];
-    for i in 0..16 {
+    let mut row = [0u8; MOST_SYMBOLS];
+    for i in 0..MOST_SYMBOLS {
         row[i] = row[i] ^ table[start + i];
     }
     row
 }
 
 // The table of q in the first places of a list, for callers that take many of its rows.
-pub fn table_of(q: usize) -> [u8; 256]
+pub fn table_of(q: usize) -> [u8; TABLE_SIZE]
     requires { ⌜ Known q ⌝ }
     ensures { λ r. ⌜ HasProducts q r ⌝ }
 {
@@ -79,7 +87,7 @@ pub fn table_of(q: usize) -> [u8; 256]
         return tables::PRODUCTS_4;
     }
     let products = tables::PRODUCTS_2;
-    let mut table = [0u8; 256];
+    let mut table = [0u8; TABLE_SIZE];
     for i in 0..16 {
         table[i] = products[i];
     }
@@ -87,12 +95,12 @@ pub fn table_of(q: usize) -> [u8; 256]
 }
 
 // The products of `a` by all symbols, from such a list, for loops with one factor: place b holds the product by b.
-pub fn products_in(table: &[u8], q: usize, a: u8) -> [u8; 16]
+pub fn products_in(table: &[u8], q: usize, a: u8) -> [u8; MOST_SYMBOLS]
     requires { ⌜ Known q × HasProducts q (now table) ⌝ }
     ensures { λ r. ⌜ r ≡ productRow q a ⌝ }
 {
     if q == 4 {
-        sixteen_of(table, (a % 16) as usize * 16)
+        whole_row(table, (a % 16) as usize * 16)
     } else {
         part_of(table, (a % 4) as usize * 4, 4)
     }
@@ -110,37 +118,12 @@ pub fn product_in(table: &[u8], q: usize, a: u8, b: u8) -> u8
     }
 }
 
-// The product of two symbols, for a caller that takes only few.
-pub fn product(q: usize, a: u8, b: u8) -> u8
-    requires { ⌜ Known q ⌝ }
-    ensures { λ r. ⌜ r ≡ number q (symbols q ._⊗_ (symbol q a) (symbol q b)) ⌝ }
-{
-    product_in(&table_of(q), q, a, b)
-}
-
-// All products of `a`, for such a caller.
-pub fn products_of(q: usize, a: u8) -> [u8; 16]
+// All products of `a`, for a caller that takes only few.
+pub fn products_of(q: usize, a: u8) -> [u8; MOST_SYMBOLS]
     requires { ⌜ Known q ⌝ }
     ensures { λ r. ⌜ r ≡ productRow q a ⌝ }
 {
     products_in(&table_of(q), q, a)
-}
-
-// The n-th power, by squaring; 0 to the power 0 is 1.
-pub fn power(q: usize, a: u8, n: usize) -> u8
-    requires { ⌜ Known q ⌝ }
-    ensures { λ r. ⌜ r ≡ number q (powerOf (symbols q) (symbol q a) n) ⌝ }
-{
-    let mut result = 1u8;
-    let mut base = a;
-    let mut left = n;
-    while 0 < left {
-        let factor = if left % 2 == 1 { base } else { 1 };
-        result = product(q, result, factor);
-        base = product(q, base, base);
-        left = left / 2;
-    }
-    result
 }
 
 // Whether each byte of the list is a symbol, that is, below q².

@@ -1,154 +1,70 @@
--- The checks of a row: what they say of one that passes them, and that the stop service and decoding, with room enough, make
--- the same ones. And the last line from what decoding leaves.
+-- The checks of a row, by the tests that the code makes; the start as the area shows it; and the last line from what decoding leaves.
 -- Assumes nothing.
 use mathlib.Core.Path.{_≡_, refl, ap, sym, _∙_}
-use mathlib.Core.Logic.{⊎-elim}
-use mathlib.Core.Bool.{false}
 use mathlib.Core.List.{List, _++_}
-use Prim.Native.Nat.{ℕ, _≤_}
-use native.Mathlib.Omega.{arith}
-use borrow.Author.Tests.{le-ltb}
-use lib.Dec.{ltb}
-use lib.ListN.{length, take, drop}
+use Prim.Native.Nat.{ℕ}
+use lib.ListN.{take, drop}
 use lib.Seq.{take-at}
 use Rattle.refusals.specs.declared.Refusal.{Refusal}
-use Rattle.refusals.proofs.Checks.{Refuses, later, Passes, done, clear, refused, passed, decideChecks, refuses-front, refuses-behind, refuses-split, passes-both, passes-split}
+use Rattle.refusals.proofs.Checks.{Refuses, Passes, refused, passed, refuses-front, refuses-behind, passes-both, passes-split}
 use Rattle.curve.specs.Codes.{pointCount, dimension}
-use Rattle.curve.specs.Answers.{codeChecks}
+use Rattle.curve.specs.Answers.{codeChecks, symbolChecks}
 use Rattle.curve.specs.Given.{Received}
-use Rattle.curve.proofs.Sizes.{count-small}
-use Rattle.curve.proofs.CodeLaws.{dimension-le}
-use Rattle.curve.proofs.GivenChecks.{passes-given}
-use Rattle.published.specs.Start.{stepCount}
-use Rattle.published.specs.Picture.{areaSize, cellNumber, picture}
-use Rattle.steps.specs.declared.Stopped.{Stopped}
-use Rattle.steps.specs.declared.Stopped.the-variants.{Done, Refused}
+use Rattle.curve.proofs.GivenChecks.{code-passes, given-passes, passes-given}
+use Rattle.published.specs.Picture.{cellNumber, picture}
 use Rattle.workarea.specs.Area.{Starts, cellsOf, numbers, shown}
-use Rattle.steps.specs.Stop.{stateAfter, stopChecks, stopAnswer, stopWork, pictureAfter}
-use Rattle.workarea.proofs.Sizes.{sizes}
+use Rattle.steps.specs.Stop.{stateAfter, pictureAfter}
 use Rattle.decoder.specs.declared.Decoded.{Decoded}
-use Rattle.decoder.specs.declared.Decoded.the-variants.{Accepted, Refused as Rejected}
-use Rattle.decoder.specs.Decoding.{decodeChecks, decodeAnswer, decodeMessage, decoded, ifAccepted}
-use Rattle.decoder.proofs.DecodeChecks.{passes}
+use Rattle.decoder.specs.declared.Decoded.the-variants.{Accepted, Refused}
+use Rattle.decoder.specs.Decoding.{decoded, ifAccepted}
+use Rattle.decoder.specs.FullRows.{messageAfter}
 use Rattle.voting.specs.Voting.{voted}
 use Rattle.voting.proofs.Votes.{voted-count}
 use Rattle.report.specs.Report.{refuseLine}
 use Rattle.trace.specs.Trace.{lastLine, rowLines, traceChecks, answer}
 
--- a row that passes is full
-pub row-passes : (q u : ℕ) (row : List ℕ) → Passes (traceChecks q u row) → Received q u row
-unfolding traceChecks
-row-passes q u row p =
-    let both = passes-split (codeChecks q u) p in
-    passes-given q u (pointCount q) row (both .0) (both .1)
+module _ (q u : ℕ) (row : List ℕ) where
+  -- 1, 2: there is no such code
+  pub refused-by-code : {why : Refusal} → Refuses (codeChecks q u) why → answer q u row ≡ refuseLine why
+  unfolding answer traceChecks
+  refused-by-code r = refused refuseLine (rowLines q u row) (refuses-front _ r)
 
--- areas that are large enough for both q are large enough for a full row
-work-enough : (q u : ℕ) (row work : List ℕ) → Received q u row → 1472 ≤ length work → areaSize q ≤ length work
-work-enough q u row work full room = omega (arith, sizes q (full .known) .area)
+  -- 4, 5: the row is not n symbols
+  pub refused-by-row : {why : Refusal} → Passes (codeChecks q u) → Refuses (symbolChecks q (pointCount q) row) why → answer q u row ≡ refuseLine why
+  unfolding answer traceChecks
+  refused-by-row coded r = refused refuseLine (rowLines q u row) (refuses-behind coded r)
 
-dimension-enough : (q u : ℕ) (row out : List ℕ) → Received q u row → 64 ≤ length out → dimension q u ≤ length out
-dimension-enough q u row out full room = omega (arith, dimension-le q u (full .code), count-small q (full .known))
+  -- a full row has its lines printed
+  pub not-refused : Received q u row → answer q u row ≡ rowLines q u row
+  unfolding answer traceChecks
+  not-refused full =
+      passed refuseLine (rowLines q u row) (passes-both (code-passes q u (full .known) (full .code)) (given-passes full))
 
--- no step is not too many
-none-asked : (q : ℕ) → ltb (stepCount q) 0 ≡ false
-none-asked q = le-ltb (stepCount q) 0 (omega arith)
+  -- and a row that passes is full
+  pub row-passes : Passes (traceChecks q u row) → Received q u row
+  unfolding traceChecks
+  row-passes p =
+      let both = passes-split (codeChecks q u) p in
+      passes-given q u (pointCount q) row (both .0) (both .1)
 
--- what the stop service refuses at the start is what is refused here
-stop-refuses : (q u : ℕ) (row work out : List ℕ) {why : Refusal} → Refuses (traceChecks q u row) why
-    → Refuses (stopChecks q u 0 row work out) why
-unfolding traceChecks stopChecks
-stop-refuses q u row work out r =
-    ⊎-elim
-    (λ f. refuses-front _ f)
-    (λ s. refuses-behind (s .0) (later (none-asked q) (refuses-front _ (s .1))))
-    (refuses-split (codeChecks q u) r)
+  -- the picture after no step shows the start
+  pub shows-start : {work : List ℕ} (rest : List ℕ) → work ≡ pictureAfter q u row 0 ++ rest → Starts q work (cellsOf q (stateAfter q u row 0 .polys))
+  unfolding pictureAfter picture cellNumber cellsOf shown numbers
+  shows-start rest e = record { rest = rest; is = e }
 
-stop-passes : (q u : ℕ) (row work out : List ℕ) → 1472 ≤ length work → 64 ≤ length out → Passes (traceChecks q u row)
-    → Passes (stopChecks q u 0 row work out)
-unfolding traceChecks stopChecks
-stop-passes q u row work out room votes p =
-    let full = row-passes q u row p in
-    let both = passes-split (codeChecks q u) p in
-    passes-both (both .0)
-    (clear (none-asked q)
-    (passes-both (both .1)
-    (clear (le-ltb (length work) (areaSize q) (work-enough q u row work full room))
-    (clear (le-ltb (length out) (dimension q u) (dimension-enough q u row out full votes)) done))))
+  module _ (message after : List ℕ) (left : after ≡ messageAfter q u row message) {k : ℕ} (size : k ≡ dimension q u) where
+    -- the message that was voted for stands in the first places of what an accepted decoding leaves
+    accepted-front : {count : ℕ} → decoded q u row ≡ Accepted count → take k after ≡ voted q u row
+    unfolding messageAfter ifAccepted
+    accepted-front e =
+        let behind = drop (dimension q u) message in
+        let whole : after ≡ voted q u row ++ behind = left ∙ ap (λ (d : Decoded). ifAccepted d (voted q u row ++ behind) message) e in
+        ap (take k) whole ∙ take-at (voted q u row) behind k (voted-count q u row ∙ sym size)
 
--- where the stop service, asked for no step, refuses, its refusal is printed
-pub stop-refused : (q u : ℕ) (row work out : List ℕ) {r : Stopped} {why : Refusal} → 1472 ≤ length work → 64 ≤ length out
-    → r ≡ stopAnswer q u 0 row work out → r ≡ Refused why → answer q u row ≡ refuseLine why
-unfolding stopAnswer answer
-stop-refused q u row work out {r} {why} room votes is told =
-    ⊎-elim
-    (λ (f : (given : Refusal) × Refuses (traceChecks q u row) given).
-    let said = refused Refused Done (stop-refuses q u row work out (f .1)) in
-    let same : f .0 ≡ why = cc in
-    refused refuseLine (rowLines q u row) (f .1) ∙ ap refuseLine same)
-    (λ (p : Passes (traceChecks q u row)).
-    let said = passed Refused Done (stop-passes q u row work out room votes p) in
-    let never : _≡_ {A = ℕ} 0 1 = cc in
-    absurd (omega arith))
-    (decideChecks (traceChecks q u row))
-
--- and where it is done, the row is full, its lines are printed, and the area shows the start
-pub record Begun (q u : ℕ) (row work after : List ℕ) : Type 0 where
-  pub full : Received q u row
-  pub lines : answer q u row ≡ rowLines q u row
-  pub shows : Starts q after (cellsOf q (stateAfter q u row 0 .polys))
-
-pub stop-done : (q u : ℕ) (row work out after : List ℕ) {r : Stopped} → 1472 ≤ length work → 64 ≤ length out
-    → r ≡ stopAnswer q u 0 row work out → after ≡ stopWork q u 0 row work out → r ≡ Done → Begun q u row work after
-unfolding stopAnswer stopWork answer pictureAfter picture cellNumber cellsOf shown numbers
-stop-done q u row work out after {r} room votes is left told =
-    ⊎-elim
-    (λ (f : (given : Refusal) × Refuses (traceChecks q u row) given).
-    let said = refused Refused Done (stop-refuses q u row work out (f .1)) in
-    let never : _≡_ {A = ℕ} 0 1 = cc in
-    absurd (omega arith))
-    (λ (p : Passes (traceChecks q u row)).
-    let all = stop-passes q u row work out room votes p in
-    record {
-      full = row-passes q u row p;
-      lines = passed refuseLine (rowLines q u row) p;
-      shows =
-          record { rest = drop (areaSize q) work; is = left ∙ passed (λ why. work) (pictureAfter q u row 0 ++ drop (areaSize q) work) all };
-    })
-    (decideChecks (traceChecks q u row))
-
--- decoding a full row, with room enough, refuses only by the count
-decode-passes : (q u : ℕ) (row work message corrected : List ℕ) → Received q u row → 1472 ≤ length work → 64 ≤ length message → 64 ≤ length corrected
-    → Passes (decodeChecks q u row work message corrected)
-decode-passes q u row work message corrected full room one two =
-    passes q u row work message corrected full
-    (record {
-      for-work = work-enough q u row work full room;
-      for-message = dimension-enough q u row message full one;
-      for-corrected = omega (arith, count-small q (full .known));
-    })
-
-pub decode-answer : (q u : ℕ) (row work message corrected : List ℕ) → Received q u row → 1472 ≤ length work → 64 ≤ length message → 64 ≤ length corrected
-    → decodeAnswer q u row work message corrected ≡ decoded q u row
-unfolding decodeAnswer
-decode-answer q u row work message corrected full room one two =
-    passed Rejected (decoded q u row) (decode-passes q u row work message corrected full room one two)
-
--- the message that was voted for stands in the first places of what an accepted decoding leaves
-accepted-front : (q u : ℕ) (row work message corrected after : List ℕ) {count k : ℕ} → decodeAnswer q u row work message corrected ≡ Accepted count
-    → after ≡ decodeMessage q u row work message corrected → k ≡ dimension q u → take k after ≡ voted q u row
-unfolding decodeMessage ifAccepted
-accepted-front q u row work message corrected after {count} {k} answered left size =
-    let whole : after ≡ voted q u row ++ drop (dimension q u) message =
-    left ∙ ap (λ (d : Decoded). ifAccepted d (voted q u row ++ drop (dimension q u) message) message) answered in
-    ap (take k) whole ∙ take-at (voted q u row) (drop (dimension q u) message) k (voted-count q u row ∙ sym size)
-
--- so the last line is made from what decoding answers and leaves
-pub last-line : (q u : ℕ) (row work message corrected after : List ℕ) {r : Decoded} {k : ℕ} → r ≡ decodeAnswer q u row work message corrected
-    → decodeAnswer q u row work message corrected ≡ decoded q u row → after ≡ decodeMessage q u row work message corrected → k ≡ dimension q u
-    → lastLine r (take k after) ≡ lastLine (decoded q u row) (voted q u row)
-last-line q u row work message corrected after {r} {k} answered is left size =
-    by-answer r (sym answered) ∙ ap (λ (d : Decoded). lastLine d (voted q u row)) (answered ∙ is)
-  where
-    by-answer : (d : Decoded) → decodeAnswer q u row work message corrected ≡ d → lastLine d (take k after) ≡ lastLine d (voted q u row)
-    by-answer (Accepted count) e = ap (lastLine (Accepted count)) (accepted-front q u row work message corrected after e left size)
-    by-answer (Rejected why) e = unfold lastLine in refl
+    -- so the last line is made from what decoding answers and leaves
+    pub last-line : {r : Decoded} → r ≡ decoded q u row → lastLine r (take k after) ≡ lastLine (decoded q u row) (voted q u row)
+    last-line {r} answered = by-answer r (sym answered) ∙ ap (λ (d : Decoded). lastLine d (voted q u row)) answered
+      where
+        by-answer : (d : Decoded) → decoded q u row ≡ d → lastLine d (take k after) ≡ lastLine d (voted q u row)
+        by-answer (Accepted count) e = ap (lastLine (Accepted count)) (accepted-front e)
+        by-answer (Refused why) e = unfold lastLine in refl

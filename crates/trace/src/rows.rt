@@ -1,17 +1,21 @@
 // All lines of a row, or the line of its refusal.
-use curve::dimension;
+use curve::Code;
+use curve::Named;
 use decoder::Decoded;
-use decoder::decode;
+use decoder::decode_row;
+use refusals::Refusal;
 use report::put_acceptance;
 use report::put_refusal;
 use request::put_code;
 use steplines::put_steps;
-use steps::Stopped;
-use steps::stop;
+use steps::advance;
+use symbols::MOST_AREA;
+use symbols::MOST_POINTS;
 ghost use Prim.Native.Nat.{_+_, _≤_};
 ghost use lib.ListN.{length};
 ghost use Rattle.lines.specs.Text.{Wrote};
-ghost use Rattle.curve.specs.Given.{Received};
+ghost use Rattle.curve.specs.Given.{Valid, Received};
+ghost use Rattle.published.specs.Picture.{areaSize};
 ghost use Rattle.workarea.specs.Area.{Starts, cellsOf};
 ghost use Rattle.steps.specs.Stop.{stateAfter};
 ghost use Rattle.voting.specs.Voting.{voted};
@@ -31,39 +35,55 @@ fn put_decoded(out: &mut [u8], at: usize, answered: Decoded, message: &[u8]) -> 
 }
 
 // The last line: what decoding the row answers.
-fn put_last(out: &mut [u8], at: usize, q: usize, u: usize, row: &[u8], work: &mut [u8]) -> usize
-    requires { ⌜ Received q u (now row) ⌝ }
-    requires { ⌜ (1472 ≤ length (now work)) × (at + lastSize q ≤ length (now out)) ⌝ }
-    ensures { λ r. ⌜ Wrote (now (out .entry)) at (lastLine (decoded q u (now (row .entry))) (voted q u (now (row .entry)))) (now (out .exit)) r ⌝ }
+fn put_last(out: &mut [u8], at: usize, code: Code, row: &[u8], work: &mut [u8]) -> usize
+    requires { ⌜ Valid code × Received (code .q) (code .u) (now row) ⌝ }
+    requires { ⌜ (areaSize (code .q) ≤ length (now work)) × (at + lastSize (code .q) ≤ length (now out)) ⌝ }
+    ensures { λ r. ⌜ Wrote (now (out .entry)) at
+        (lastLine (decoded (code .q) (code .u) (now (row .entry))) (voted (code .q) (code .u) (now (row .entry)))) (now (out .exit)) r ⌝ }
 {
-    let mut message = [0u8; 64];
-    let mut corrected = [0u8; 64];
-    let answered = decode(q, u, row, work, &mut message, &mut corrected);
-    let k = dimension(q, u);
+    let mut message = [0u8; MOST_POINTS];
+    let mut corrected = [0u8; MOST_POINTS];
+    let k = code.k;
+    let answered = decode_row(code, row, work, &mut message, &mut corrected);
     put_decoded(out, at, answered, &message[..k])
 }
 
 // All lines of a full row whose start stands in the work area.
-fn put_lines(out: &mut [u8], q: usize, u: usize, row: &[u8], work: &mut [u8]) -> usize
-    requires { ⌜ Received q u (now row) ⌝ }
-    requires { ⌜ (1472 ≤ length (now work)) × (traceSize q ≤ length (now out)) ⌝ }
-    requires { ⌜ Starts q (now work) (cellsOf q (stateAfter q u (now row) 0 .polys)) ⌝ }
-    ensures { λ r. ⌜ Wrote (now (out .entry)) 0 (rowLines q u (now (row .entry))) (now (out .exit)) r ⌝ }
+fn put_lines(out: &mut [u8], code: Code, row: &[u8], work: &mut [u8]) -> usize
+    requires { ⌜ Valid code × Received (code .q) (code .u) (now row) ⌝ }
+    requires { ⌜ (areaSize (code .q) ≤ length (now work)) × (traceSize (code .q) ≤ length (now out)) ⌝ }
+    requires { ⌜ Starts (code .q) (now work) (cellsOf (code .q) (stateAfter (code .q) (code .u) (now row) 0 .polys)) ⌝ }
+    ensures { λ r. ⌜ Wrote (now (out .entry)) 0 (rowLines (code .q) (code .u) (now (row .entry))) (now (out .exit)) r ⌝ }
 {
-    let first = put_code(out, 0, q, u);
-    let steps = put_steps(out, first, q, u, work);
-    put_last(out, steps, q, u, row, work)
+    let first = put_code(out, 0, code.q, code.u);
+    let steps = put_steps(out, first, code.q, code.u, work);
+    put_last(out, steps, code, row, work)
 }
 
-// The stop service, asked for no step, checks the row and leaves the start.
+// The answer under a code: refused with 4 or 5, or all lines, from the start that no step makes.
+fn answer_under(out: &mut [u8], code: Code, row: &[u8]) -> usize
+    requires { ⌜ Valid code × (longestTrace ≤ length (now out)) ⌝ }
+    ensures { λ r. ⌜ Wrote (now (out .entry)) 0 (Trace·answer (code .q) (code .u) (now (row .entry))) (now (out .exit)) r ⌝ }
+{
+    if row.len() != code.n {
+        return put_refusal(out, 0, Refusal::WrongLength);
+    }
+    if !symbols::all_symbols(code.q, row) {
+        return put_refusal(out, 0, Refusal::NoSymbol);
+    }
+    let mut work = [0u8; MOST_AREA];
+    let mut votes = [0u8; MOST_POINTS];
+    advance(code, 0, row, &mut work, &mut votes);
+    put_lines(out, code, row, &mut work)
+}
+
+// What is printed for q, u and a row.
 pub fn answer(out: &mut [u8], q: usize, u: usize, row: &[u8]) -> usize
     requires { ⌜ longestTrace ≤ length (now out) ⌝ }
     ensures { λ r. ⌜ Wrote (now (out .entry)) 0 (Trace·answer q u (now (row .entry))) (now (out .exit)) r ⌝ }
 {
-    let mut work = [0u8; 1472];
-    let mut votes = [0u8; 64];
-    match stop(q, u, 0, row, &mut work, &mut votes) {
-        Stopped::Done => put_lines(out, q, u, row, &mut work),
-        Stopped::Refused(why) => put_refusal(out, 0, why),
+    match curve::code_of(q, u) {
+        Named::Code(code) => answer_under(out, code, row),
+        Named::Refused(why) => put_refusal(out, 0, why),
     }
 }

@@ -1,5 +1,8 @@
 // The update of a pair: one polynomial reduced by another, or both exchanged.
 use stepvotes::Pair;
+use symbols::MOST_Q;
+use symbols::MOST_SYMBOLS;
+use workarea::MINUS;
 use workarea::Row;
 ghost use mathlib.Core.Path.{_≡_};
 ghost use Prim.Native.Nat.{ℕ, _*_, _<_};
@@ -32,7 +35,7 @@ fn reduce_polynomial(
     g: usize,
     height: usize,
     shift: usize,
-    products: [u8; 16],
+    products: [u8; MOST_SYMBOLS],
 )
     requires { ⌜ Area q (length (now work)) ⌝ }
     requires { ⌜ (f < 2 * q) × (g < 2 * q) × (f ≡ g → ⊥) ⌝ }
@@ -48,7 +51,7 @@ fn reduce_polynomial(
             polynomial: g,
             row: r,
         };
-        workarea::subtract_row(work, q, to, from, count, shift, products);
+        workarea::change_row(work, q, MINUS, to, from, count, shift, products);
     }
 }
 
@@ -59,7 +62,7 @@ fn exchange_polynomials(
     f: usize,
     g: usize,
     shift: usize,
-    products: [u8; 16],
+    products: [u8; MOST_SYMBOLS],
 )
     requires { ⌜ Area q (length (now work)) ⌝ }
     requires { ⌜ (f < 2 * q) × (g < 2 * q) × (f ≡ g → ⊥) ⌝ }
@@ -126,7 +129,7 @@ pub fn change_all(
     work: &mut [u8],
     q: usize,
     heights: &mut [usize],
-    pairs: [Pair; 4],
+    pairs: [Pair; MOST_Q],
     vote: u8,
 )
     requires { ⌜ Area q (length (now work)) ⌝ }

@@ -4,6 +4,7 @@ use mathlib.Core.Path.{ap, _∙_, subst}
 use Prim.Native.Nat.{ℕ, _-_, _*_, _<_, _≤_}
 use native.Mathlib.Nat.{mod-eq-of-lt}
 use native.Mathlib.Omega.{arith}
+use Rattle.symbols.specs.Sizes.{mostSymbols}
 use Rattle.symbols.specs.Rule.{Known, symbols, Sym, number, symbol}
 use Rattle.symbols.specs.Tables.{productRow}
 use Rattle.symbols.proofs.TableRules.{row-at}
@@ -18,8 +19,8 @@ multiplies q m known =
     record {
       at = λ a.
           let below : number q a < q * q = laws-of q known .number-below a in
-          let small : q * q ≤ 16 = sizes q known .square-few in
-          rw (mod-eq-of-lt {n = number q a} {m = 16} (omega arith))
+          let small : q * q ≤ mostSymbols = sizes q known .square-few in
+          rw (mod-eq-of-lt {n = number q a} {m = mostSymbols} (omega arith))
           (row-at q m (number q a) (rw (size-known q known) small) (rw (size-known q known) below)
           ∙ ap (λ (b : Sym q). number q (symbols q ._⊗_ (symbol q m) b)) (laws-of q known .symbol-number a));
     }

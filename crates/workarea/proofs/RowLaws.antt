@@ -1,6 +1,7 @@
 -- What the loops over the bytes of rows do to the cells that the bytes show.
 -- Assumes nothing.
 use mathlib.Core.Path.{_≡_, refl, sym, ap, _∙_}
+use mathlib.Core.Bool.{Bool, true, false}
 use mathlib.Core.List.{List, _++_}
 use mathlib.Core.Logic.{_⊎_, inl, inr, ⊎-elim}
 use Prim.Native.Nat.{ℕ, _+_, _-_, _*_, _%_, _<_, _≤_}
@@ -13,11 +14,12 @@ use Rattle.algebra.proofs.Ring.{ring, add-zero, mul-zero}
 use Rattle.algebra.proofs.Polynomials.{shift-add, shift-below}
 use Rattle.lists.specs.Tables.{put}
 use Rattle.lists.proofs.Put.{put-same, put-out, put-put, put-kept, put-parts, put-parts-back}
+use Rattle.symbols.specs.Sizes.{mostSymbols}
 use Rattle.symbols.specs.Rule.{Known, sumOf, differenceOf, symbols, number}
 use Rattle.symbols.proofs.FieldLaws.{laws-of}
 use Rattle.symbols.proofs.Bytes.{number-of-sum, number-of-difference, number-of-negative}
 use Rattle.published.specs.Start.{width}
-use Rattle.workarea.specs.Area.{madeByte, made, raisedByte, exchangedAbove, negativeByte, exchangedBelow, rowPlace, Counted, Cells, shown, Multiplies, withRows, firstSymbols, withMultiple, rowMade, raisedMinus}
+use Rattle.workarea.specs.Area.{numbersMade, madeByte, made, raisedByte, exchangedAbove, negativeByte, exchangedBelow, rowPlace, Counted, Cells, shown, Multiplies, withRows, firstSymbols, symbolsMade, withMultiple, rowMade, raisedMinus}
 use Rattle.workarea.proofs.Cells.{shown-read, shown-put}
 use Rattle.workarea.proofs.Bytes.{made-none}
 use Rattle.workarea.proofs.FirstSymbols.{first-in, first-out}
@@ -32,11 +34,16 @@ module _ (q : ℕ) (known : Known q) where
     pub numbers : (a b : K) → onNumbers (number q a) (number q b) ≡ number q (operation a b)
     pub none : (a : K) → operation a 𝟘 ≡ a
 
-  pub sums : Operation _⊕_ (sumOf q)
+  sums : Operation _⊕_ (sumOf q)
   sums = record { numbers = number-of-sum q known; none = add-zero (laws-of q known) }
 
-  pub differences : Operation _⊖_ (differenceOf q)
+  differences : Operation _⊖_ (differenceOf q)
   differences = record { numbers = number-of-difference q known; none = λ a. simp (ring, laws-of q known) }
+
+  -- a sum, or a difference
+  pub signed : (minus : Bool) → Operation (symbolsMade q minus) (numbersMade q minus)
+  signed true = differences
+  signed false = sums
 
   module _ (operation : K → K → K) where
     -- a row and a multiple of a row
@@ -81,7 +88,7 @@ module _ (q : ℕ) (known : Known q) where
     byte : (i : ℕ) → i < width q → getD l (rowPlace q p r + i) 0 ≡ number q (S p r i)
     byte i h = shown-read q S l rest e p r i hp hr h
 
-    product : (i : ℕ) → i < width q → getD products (getD l (rowPlace q p′ r′ + i) 0 % 16) 0 ≡ number q (ρ ⊗ S p′ r′ i)
+    product : (i : ℕ) → i < width q → getD products (getD l (rowPlace q p′ r′ + i) 0 % mostSymbols) 0 ≡ number q (ρ ⊗ S p′ r′ i)
     product i h = rw (shown-read q S l rest e p′ r′ i hp′ hr′ h) (m .at (S p′ r′ i))
 
     negative : (i : ℕ) → i < width q → negativeByte q l (rowPlace q p′ r′) products i ≡ number q (𝟘 ⊖ ρ ⊗ S p′ r′ i)
@@ -235,7 +242,7 @@ module _ (q : ℕ) (known : Known q) where
 
           below : (i : ℕ) → i < c → negativeByte q upper g products i ≡ v i
           below i hi =
-              ap (λ (a : ℕ). differenceOf q 0 (getD products (a % 16) 0)) (at-g i hi)
+              ap (λ (a : ℕ). differenceOf q 0 (getD products (a % mostSymbols) 0)) (at-g i hi)
               ∙ negative i (omega arith)
               ∙ ap (number q) (sym (raised-below (S p r) ρ c (S p′ r′) i hi))
 

@@ -2,7 +2,7 @@
 -- Row r of a polynomial is the one of y^(r mod q) in part r / q. Document 01, "Lent areas".
 -- Assumes nothing.
 use mathlib.Core.Path.{_≡_}
-use mathlib.Core.Bool.{true, false, _&&_}
+use mathlib.Core.Bool.{Bool, true, false, cond, _&&_}
 use mathlib.Core.List.{List, _++_}
 use mathlib.Core.Logic.{_⊎_}
 use Prim.Native.Nat.{ℕ, _+_, _-_, _*_, _/_, _%_, _<_, _≤_}
@@ -11,16 +11,21 @@ use lib.ListN.{getD}
 use Rattle.algebra.specs.Symbols.{Symbols}
 use Rattle.algebra.specs.Functions.{shift}
 use Rattle.lists.specs.Tables.{put}
-use Rattle.symbols.specs.Rule.{Known, differenceOf, symbols, number}
+use Rattle.symbols.specs.Sizes.{mostQ, mostSymbols, mostWidth}
+use Rattle.symbols.specs.Rule.{Known, sumOf, differenceOf, symbols, number}
 use Rattle.published.specs.Start.{Polynomials, coefficient, width}
 use Rattle.published.specs.Picture.{areaSize, layout, picture}
 use Rattle.workarea.specs.declared.area.Row.{Row}
 
 -- ---- the bytes of a row
 
+-- the numbers of a sum, or of a difference
+abbrev pub numbersMade : ℕ → Bool → ℕ → ℕ → ℕ
+numbersMade q minus = cond minus (differenceOf q) (sumOf q)
+
 -- the byte at `to` and the one at `from` times what `products` is the table row of, made one by an operation: sum or difference
 abbrev pub madeByte : (ℕ → ℕ → ℕ) → List ℕ → ℕ → ℕ → List ℕ → ℕ → ℕ
-madeByte operation l to from products i = operation (getD l (to + i) 0) (getD products (getD l (from + i) 0 % 16) 0)
+madeByte operation l to from products i = operation (getD l (to + i) 0) (getD products (getD l (from + i) 0 % mostSymbols) 0)
 
 -- the n bytes from `to` on with a multiple of those from `from` on added to them, or subtracted
 unfoldable pub made : (ℕ → ℕ → ℕ) → List ℕ → ℕ → ℕ → ℕ → List ℕ → List ℕ
@@ -28,7 +33,7 @@ made operation l to from n products = put l to n (madeByte operation l to from p
 
 -- the byte `shift` places below, minus the byte of the other row times what `products` is the table row of
 abbrev pub raisedByte : ℕ → List ℕ → ℕ → ℕ → ℕ → List ℕ → ℕ → ℕ
-raisedByte q l f g shift products i = differenceOf q (getD l (f + (i - shift)) 0) (getD products (getD l (g + i) 0 % 16) 0)
+raisedByte q l f g shift products i = differenceOf q (getD l (f + (i - shift)) 0) (getD products (getD l (g + i) 0 % mostSymbols) 0)
 
 -- n bytes of both rows from place i on: f's become the raised ones, and g's become f's
 unfoldable pub exchangedAbove : ℕ → List ℕ → ℕ → ℕ → ℕ → List ℕ → ℕ → ℕ → List ℕ
@@ -37,7 +42,7 @@ exchangedAbove q l f g shift products i n =
 
 -- zero, minus the byte of the other row times what `products` is the table row of
 abbrev pub negativeByte : ℕ → List ℕ → ℕ → List ℕ → ℕ → ℕ
-negativeByte q l g products i = differenceOf q 0 (getD products (getD l (g + i) 0 % 16) 0)
+negativeByte q l g products i = differenceOf q 0 (getD products (getD l (g + i) 0 % mostSymbols) 0)
 
 -- the first n bytes of both rows, where nothing stands `shift` places below
 unfoldable pub exchangedBelow : ℕ → List ℕ → ℕ → ℕ → List ℕ → ℕ → List ℕ
@@ -48,9 +53,9 @@ exchangedBelow q l f g products n = put (put l f n (negativeByte q l g products)
 pub record Area (q n : ℕ) : Type 0 where
   pub known : Known q
   pub some : 2 ≤ q
-  pub few : q ≤ 4
+  pub few : q ≤ mostQ
   pub square : q * q < width q
-  pub narrow : width q ≤ 23
+  pub narrow : width q ≤ mostWidth
   pub room : areaSize q ≤ n
 
 -- where row r of polynomial p starts
@@ -118,7 +123,7 @@ module _ (q : ℕ) where
 
   -- `products` is the table row of ρ
   pub record Multiplies (products : List ℕ) (ρ : K) : Type 0 where
-    pub at : (a : K) → getD products (number q a % 16) 0 ≡ number q (ρ ⊗ a)
+    pub at : (a : K) → getD products (number q a % mostSymbols) 0 ≡ number q (ρ ⊗ a)
 
   -- n rows of polynomial p, from row d on, replaced by those of F
   unfoldable pub withRows : ℕ → ℕ → ℕ → (ℕ → ℕ → K) → Cells → Cells
@@ -128,6 +133,10 @@ module _ (q : ℕ) where
   -- the first h symbols of a row, and zeros
   unfoldable pub firstSymbols : ℕ → (ℕ → K) → ℕ → K
   firstSymbols h a i = elim (ltb i h) [ true ↦ a i | false ↦ 𝟘 ]
+
+  -- a sum, or a difference
+  abbrev pub symbolsMade : Bool → K → K → K
+  symbolsMade minus = cond minus _⊖_ _⊕_
 
   -- a row and ρ·x^c times a row, made one by an operation
   unfoldable pub withMultiple : (K → K → K) → (ℕ → K) → K → ℕ → (ℕ → K) → ℕ → K

@@ -6,6 +6,7 @@ use Prim.Native.Nat.{ℕ, _+_, _*_, _<_, _≤_}
 use lib.Dec.{leb}
 use lib.ListN.{length, getD, set}
 use mathlib.Core.Bool.{true, false}
+use Rattle.symbols.specs.Sizes.{mostPolynomials}
 use Rattle.symbols.specs.Rule.{symbols}
 use Rattle.published.specs.Start.{Polynomials, width}
 use Rattle.workarea.specs.Area.{Cells, cellsOf, Becomes}
@@ -26,7 +27,7 @@ pub record BecomesBelow (q : ℕ) (before after : List ℕ) (S T : Polynomials (
 
 -- the heights before the first step: g_i has no upper part, and that of f_i is y^i
 pub record AtStart (q : ℕ) (heights : List ℕ) : Type 0 where
-  pub long : length heights ≡ 8
+  pub long : length heights ≡ mostPolynomials
   pub g-none : (p : ℕ) → p < q → getD heights p 0 ≡ 0
   pub f-one : (p : ℕ) → q ≤ p → p < 2 * q → getD heights p 0 ≡ 1
 

@@ -1,13 +1,19 @@
 // Rows of the work area by polynomial and row: the only functions that work out where a row stands.
 use crate::heights;
 use crate::rows;
+use symbols::MOST_SYMBOLS;
 ghost use mathlib.Core.Path.{_≡_};
 ghost use Prim.Native.Nat.{_+_, _*_, _<_};
 ghost use lib.ListN.{length};
 ghost use Rattle.symbols.specs.Rule.{Known, Sym};
 ghost use Rattle.published.specs.Start.{width};
 ghost use Rattle.published.specs.Picture.{areaSize};
-ghost use Rattle.workarea.specs.Area.{Area, TwoRows, Reach, rowPlace, Turns, Multiplies, rowAdded, rowSubtracted, rowExchanged};
+ghost use Rattle.workarea.specs.Area.{Area, TwoRows, Reach, rowPlace, Turns, Multiplies, symbolsMade, rowMade, rowExchanged};
+
+// What a change of a row does with a multiple of another one.
+pub const PLUS: bool = false;
+
+pub const MINUS: bool = true;
 
 // A row of the area.
 pub struct Row {
@@ -70,42 +76,25 @@ fn run_of(q: usize, to: Row, from: Row, height: usize, shift: usize) -> Run
     }
 }
 
-// Adds to a row what `products` is the table row of, times x^shift, times the first `height` symbols of another row.
-pub fn add_row(
+// Adds to a row what `products` is the table row of, times x^shift, times the first `height` symbols of another row, or subtracts it
+// where `minus` is true.
+pub fn change_row(
     work: &mut [u8],
     q: usize,
+    minus: bool,
     to: Row,
     from: Row,
     height: usize,
     shift: usize,
-    products: [u8; 16],
+    products: [u8; MOST_SYMBOLS],
 )
     requires { ⌜ Area q (length (now work)) ⌝ }
     requires { ⌜ TwoRows q to from ⌝ }
-    ensures { λ _. ⌜ ((ρ : Sym q) → Multiplies q products ρ
-        → Turns q (now (work .entry)) (now (work .exit)) (rowAdded q (to .polynomial) (to .row) (from .polynomial) (from .row) height shift ρ)) ⌝ }
+    ensures { λ _. ⌜ ((ρ : Sym q) → Multiplies q products ρ → Turns q (now (work .entry)) (now (work .exit))
+        (rowMade q (symbolsMade q minus) (to .polynomial) (to .row) (from .polynomial) (from .row) height shift ρ)) ⌝ }
 {
     let run = run_of(q, to, from, height, shift);
-    rows::add_bytes(work, q, run.to, run.from, run.count, products);
-}
-
-// Subtracts the same from it.
-pub fn subtract_row(
-    work: &mut [u8],
-    q: usize,
-    to: Row,
-    from: Row,
-    height: usize,
-    shift: usize,
-    products: [u8; 16],
-)
-    requires { ⌜ Area q (length (now work)) ⌝ }
-    requires { ⌜ TwoRows q to from ⌝ }
-    ensures { λ _. ⌜ ((ρ : Sym q) → Multiplies q products ρ
-        → Turns q (now (work .entry)) (now (work .exit)) (rowSubtracted q (to .polynomial) (to .row) (from .polynomial) (from .row) height shift ρ)) ⌝ }
-{
-    let run = run_of(q, to, from, height, shift);
-    rows::subtract_bytes(work, q, run.to, run.from, run.count, products);
+    rows::change_bytes(work, q, minus, run.to, run.from, run.count, products);
 }
 
 // Row r of polynomial f becomes x^shift times itself minus the multiple of that of g, and row r of g becomes that of f.
@@ -116,7 +105,7 @@ pub fn exchange_row(
     g: usize,
     r: usize,
     shift: usize,
-    products: [u8; 16],
+    products: [u8; MOST_SYMBOLS],
 )
     requires { ⌜ Area q (length (now work)) ⌝ }
     requires { ⌜ (f < 2 * q) × (g < 2 * q) × (r < 2 * q) × (f ≡ g → ⊥) ⌝ }

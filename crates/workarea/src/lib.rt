@@ -3,12 +3,13 @@ mod area;
 mod heights;
 mod rows;
 
+pub use area::MINUS;
+pub use area::PLUS;
 pub use area::Row;
-pub use area::add_row;
 pub use area::area_size;
+pub use area::change_row;
 pub use area::exchange_row;
 pub use area::row_place;
-pub use area::subtract_row;
 pub use area::width_of;
 pub use heights::add_heights;
 pub use heights::exchange_heights;

@@ -1,12 +1,13 @@
 // Runs of bytes in the work area: the loops that clear bytes and that add a multiple of one row to another or subtract it, with
 // no branch inside and no call but the sum or the difference, which are one instruction each.
+use symbols::MOST_SYMBOLS;
+use symbols::SYMBOL_PLACES;
 ghost use mathlib.Core.Path.{_≡_};
 ghost use mathlib.Core.List.{_++_};
 ghost use mathlib.Core.Logic.{_⊎_};
 ghost use Prim.Native.Nat.{_+_, _-_, _≤_};
 ghost use lib.ListN.{length, drop, replicate};
-ghost use Rattle.symbols.specs.Rule.{sumOf, differenceOf};
-ghost use Rattle.workarea.specs.Area.{made, exchangedAbove, exchangedBelow};
+ghost use Rattle.workarea.specs.Area.{numbersMade, made, exchangedAbove, exchangedBelow};
 
 // Sets the first `count` bytes to zero.
 pub fn clear(work: &mut [u8], count: usize)
@@ -18,41 +19,34 @@ pub fn clear(work: &mut [u8], count: usize)
     }
 }
 
-// Adds to the bytes from `to` on the bytes from `from` on, each times what `products` is the table row of.
-pub fn add_bytes(
-    work: &mut [u8],
-    q: usize,
-    to: usize,
-    from: usize,
-    count: usize,
-    products: [u8; 16],
-)
-    requires { ⌜ (to + count ≤ length (now work)) × (from + count ≤ length (now work)) ⌝ }
-    requires { ⌜ (to + count ≤ from) ⊎ (from + count ≤ to) ⌝ }
-    ensures { λ _. ⌜ now (work .exit) ≡ made (sumOf q) (now (work .entry)) to from count products ⌝ }
+// The sum of two symbols, or their difference.
+fn sum_or_difference(q: usize, minus: bool, a: u8, b: u8) -> u8
+    ensures { λ r. ⌜ r ≡ numbersMade q minus a b ⌝ }
 {
-    for i in 0..count {
-        let factor = (work[from + i] % 16) as usize;
-        work[to + i] = symbols::sum(q, work[to + i], products[factor]);
+    if minus {
+        symbols::difference(q, a, b)
+    } else {
+        symbols::sum(q, a, b)
     }
 }
 
-// Subtracts the same from them.
-pub fn subtract_bytes(
+// Adds to the bytes from `to` on the bytes from `from` on, each times what `products` is the table row of, or subtracts them.
+pub fn change_bytes(
     work: &mut [u8],
     q: usize,
+    minus: bool,
     to: usize,
     from: usize,
     count: usize,
-    products: [u8; 16],
+    products: [u8; MOST_SYMBOLS],
 )
     requires { ⌜ (to + count ≤ length (now work)) × (from + count ≤ length (now work)) ⌝ }
     requires { ⌜ (to + count ≤ from) ⊎ (from + count ≤ to) ⌝ }
-    ensures { λ _. ⌜ now (work .exit) ≡ made (differenceOf q) (now (work .entry)) to from count products ⌝ }
+    ensures { λ _. ⌜ now (work .exit) ≡ made (numbersMade q minus) (now (work .entry)) to from count products ⌝ }
 {
     for i in 0..count {
-        let factor = (work[from + i] % 16) as usize;
-        work[to + i] = symbols::difference(q, work[to + i], products[factor]);
+        let factor = (work[from + i] % SYMBOL_PLACES) as usize;
+        work[to + i] = sum_or_difference(q, minus, work[to + i], products[factor]);
     }
 }
 
@@ -65,7 +59,7 @@ pub fn exchange_above(
     g: usize,
     shift: usize,
     width: usize,
-    products: [u8; 16],
+    products: [u8; MOST_SYMBOLS],
 )
     requires { ⌜ (f + width ≤ length (now work)) × (g + width ≤ length (now work)) ⌝ }
     requires { ⌜ (f + width ≤ g) ⊎ (g + width ≤ f) ⌝ }
@@ -76,7 +70,7 @@ pub fn exchange_above(
     while shift < i {
         i -= 1;
         let old = work[f + i];
-        let factor = (work[g + i] % 16) as usize;
+        let factor = (work[g + i] % SYMBOL_PLACES) as usize;
         work[f + i] = symbols::difference(q, work[f + (i - shift)], products[factor]);
         work[g + i] = old;
     }
@@ -89,7 +83,7 @@ pub fn exchange_below(
     f: usize,
     g: usize,
     count: usize,
-    products: [u8; 16],
+    products: [u8; MOST_SYMBOLS],
 )
     requires { ⌜ (f + count ≤ length (now work)) × (g + count ≤ length (now work)) ⌝ }
     requires { ⌜ (f + count ≤ g) ⊎ (g + count ≤ f) ⌝ }
@@ -97,7 +91,7 @@ pub fn exchange_below(
 {
     for i in 0..count {
         let old = work[f + i];
-        let factor = (work[g + i] % 16) as usize;
+        let factor = (work[g + i] % SYMBOL_PLACES) as usize;
         work[f + i] = symbols::difference(q, 0, products[factor]);
         work[g + i] = old;
     }

@@ -8,6 +8,7 @@ use native.Mathlib.Omega.{arith}
 use borrow.Author.Needs.{needs}
 use denote.Ref.{now}
 use lib.ListN.{drop, replicate}
+use Rattle.symbols.specs.Sizes.{mostPoints}
 use Rattle.curve.specs.Codes.{pointCount, dimension}
 use Rattle.curve.specs.Given.{Received}
 use Rattle.curve.proofs.CodeLaws.{dimension-le}
@@ -30,7 +31,7 @@ voting c =
     record {
       input = at .pre .0 .1;
       k-is = at .pre .0 .0 .k-is;
-      rest = drop (dimension (at .args .code .q) (at .args .code .u)) (replicate 64 0);
+      rest = drop (dimension (at .args .code .q) (at .args .code .u)) (replicate mostPoints 0);
       votes-are = c .before .before .before .vote-all .ensures .1;
     }
 
@@ -43,16 +44,16 @@ judging c =
       votes-of = voting (c .before .before .before .before);
       n-is = at .pre .0 .0 .n-is;
       most-is = at .pre .0 .0 .reach-is;
-      rest = drop (pointCount (at .args .code .q)) (replicate 64 0);
+      rest = drop (pointCount (at .args .code .q)) (replicate mostPoints 0);
       sent-is = c .before .judge .ensures .1;
       count-is = c .before .judge .ensures .0;
     }
 
 -- no code has more than 64 symbols in a row or a message
-fits-row : {q u : ℕ} {row : List ℕ} → Received q u row → pointCount q ≤ 64
+fits-row : {q u : ℕ} {row : List ℕ} → Received q u row → pointCount q ≤ mostPoints
 fits-row {q} R = count-small q (R .known)
 
-fits-message : {q u : ℕ} {row : List ℕ} → Received q u row → dimension q u ≤ 64
+fits-message : {q u : ℕ} {row : List ℕ} → Received q u row → dimension q u ≤ mostPoints
 fits-message {q} {u} R = omega (arith, count-small q (R .known), dimension-le q u (R .code))
 
 slice-aggregate-vote-all : tie.Need-slice-aggregate-vote-all

@@ -5,6 +5,7 @@ use Prim.Native.Nat.{ℕ, _-_, _≤_}
 use native.Mathlib.Omega.{arith}
 use lib.ListN.{length, length-set}
 use Rattle.algebra.specs.Symbols.{power}
+use Rattle.symbols.specs.Sizes.{mostSymbols}
 use Rattle.symbols.specs.Rule.{Sym, symbols, number, symbol}
 use Rattle.symbols.specs.Tables.{productRow}
 use Rattle.symbols.proofs.Bytes.{number-of-below}
@@ -18,7 +19,7 @@ use Rattle.startarea.proofs.add_part.Tie as tie
 
 abbrev Inv-loop : tie.InvT-loop
 Inv-loop q n constant factor products result₀ term₀ i₀ result term i =
-    (i ≤ n) × (length result ≡ 16)
+    (i ≤ n) × (length result ≡ mostSymbols)
     × ((a : ℕ) (F : ℕ → Sym q) → products ≡ productRow q a → Holds q result₀ n F
     → (term ≡ number q (symbols q ._⊗_ (symbol q factor) (power (symbols q) (symbol q a) (n - i))))
     × Added q n (symbol q a) (symbol q factor) F result i)

@@ -16,11 +16,11 @@ use Rattle.startarea.proofs.subtract_column.Statement.{statement}
 use Rattle.startarea.proofs.subtract_column.Tie as tie
 
 abbrev Inv-loop : tie.InvT-loop
-Inv-loop table work₀ q row a sums values j₀ work j =
+Inv-loop table work₀ q row a sums minus-one values j₀ work j =
     (j ≤ q) × (length work ≡ length work₀) × Turns q work₀ work (rowsMinus q q q j (columnOf q row a))
 
 abbrev μ-loop : tie.MeasureT-loop
-μ-loop table work₀ q row a sums values j₀ work j = q - j
+μ-loop table work₀ q row a sums minus-one values j₀ work j = q - j
 
 column-sums-requires : tie.Need-column-sums-requires Inv-loop μ-loop
 column-sums-requires c κs = let s = c .before .before .before in (s .pre .0 .known, s .pre .1)
@@ -109,8 +109,8 @@ subtract-column-spec =
     column-sums-requires
     cast-products-in
     products-in-requires
-    mul-add-part
     difference-requires
+    mul-add-part
     add-part-requires
     loop-holds
     array-read-products-in

@@ -8,6 +8,7 @@ use native.Mathlib.Nat.{mul-le-mul-right}
 use native.Mathlib.Omega.{arith}
 use borrow.Author.Needs.{needs}
 use lib.ListN.{length}
+use Rattle.symbols.specs.Sizes.{mostPolynomials}
 use Rattle.lines.specs.Text.{Wrote}
 use Rattle.lines.proofs.Writing.{wrote-nothing}
 use Rattle.published.specs.Start.{stepCount}
@@ -25,7 +26,7 @@ use Rattle.steplines.proofs.put_steps.Tie as tie
 
 abbrev Inv-loop : tie.InvT-loop
 Inv-loop out₀ at q u work₀ count table heights₀ next₀ t₀ out work heights next t =
-    (t ≤ count) × (length out ≡ length out₀) × (length work ≡ length work₀) × Heights q heights × (length heights ≡ 8)
+    (t ≤ count) × (length out ≡ length out₀) × (length work ≡ length work₀) × Heights q heights × (length heights ≡ mostPolynomials)
     × ((row : List ℕ) → Starts q work₀ (cellsOf q (stateAfter q u row 0 .polys)) → Reached q u row t out₀ at work out heights next)
 
 abbrev μ-loop : tie.MeasureT-loop

@@ -11,17 +11,17 @@ use Rattle.substitution.proofs.add_product_row.Tie as tie
 source-of-requires : tie.Need-source-of-requires
 source-of-requires c κs = search needs
 
-add-add-row : tie.Need-add-add-row
-add-add-row c = search needs
+add-change-row : tie.Need-add-change-row
+add-change-row c = search needs
 
-add-add-row-2 : tie.Need-add-add-row-2
-add-add-row-2 c = search needs
+add-change-row-2 : tie.Need-add-change-row-2
+add-change-row-2 c = search needs
 
-add-add-row-3 : tie.Need-add-add-row-3
-add-add-row-3 c = search needs
+add-change-row-3 : tie.Need-add-change-row-3
+add-change-row-3 c = search needs
 
-add-row-requires : tie.Need-add-row-requires
-add-row-requires c κs =
+change-row-requires : tie.Need-change-row-requires
+change-row-requires c κs =
     let s = c .before .before .before .before .before .before .before in
     let a = s .pre .1 .0 in
     let w = c .before .before .before .before .before .source-of .ensures in (
@@ -44,7 +44,7 @@ returns c =
     let s = c .before .before .before .before .before .before .before .before .before .before .before in
     let w = c .before .before .before .before .before .before .before .before .before .source-of .ensures in
     turns-same _ (λ S p r i hp hr hi. once _ (s .pre .0 .known) (s .args .to) (s .args .from) _ _ _ ρ S _ (s .pre .1 .1 .1) (s .pre .1 .1 .0) (inl (c .if1 .taken)) p r i)
-    (rw (w .0, w .1) at (c .before .before .before .add-row .ensures ρ m))
+    (rw (w .0, w .1) at (c .before .before .before .change-row .ensures ρ m))
 
 same-length-2 : tie.Need-same-length-2
 same-length-2 c = search needs
@@ -55,7 +55,7 @@ returns-2 c =
     let s = c .before .before .before .before .before .before .before .before .before .before .before .before in
     let w = c .before .before .before .before .before .before .before .before .before .before .source-of .ensures in
     turns-same _ (λ S p r i hp hr hi. once _ (s .pre .0 .known) (s .args .to) (s .args .from) _ _ _ ρ S _ (s .pre .1 .1 .1) (s .pre .1 .1 .0) (inr (c .if2 .taken)) p r i)
-    (rw (w .0, w .1) at (c .before .before .before .before .add-row .ensures ρ m))
+    (rw (w .0, w .1) at (c .before .before .before .before .change-row .ensures ρ m))
 
 add-t15 : tie.Need-add-t15
 add-t15 c = search needs
@@ -69,8 +69,8 @@ sub-t21 c = search needs
 add-t22 : tie.Need-add-t22
 add-t22 c = search needs
 
-subtract-row-requires : tie.Need-subtract-row-requires
-subtract-row-requires c κs =
+change-row-requires-2 : tie.Need-change-row-requires-2
+change-row-requires-2 c κs =
     let s = c .before .before .before .before .before .before .before .before .before .before .before .before .before .before in
     let a = s .pre .1 .0 in
     let some = c .before .before .before .if1 .left in (
@@ -94,17 +94,17 @@ returns-3 c =
     let w = c .before .before .before .before .before .before .before .before .before .before .before .before .before .before .before .source-of .ensures in
     let some = c .before .before .before .before .before .before .if1 .left in
     turns-same _ (λ S p r i hp hr hi. twice _ (s .pre .0 .known) (s .args .to) (s .args .from) _ _ _ ρ S _ (s .pre .1 .1 .1) (s .pre .1 .1 .0) (s .pre .1 .0) (omega arith) (c .before .before .before .before .before .if2 .left) p r i)
-    (turns-both _ (rw (w .0, w .1) at (c .before .before .before .before .before .before .before .before .before .add-row .ensures ρ m)) (c .before .before .subtract-row .ensures ρ m))
+    (turns-both _ (rw (w .0, w .1) at (c .before .before .before .before .before .before .before .before .before .change-row .ensures ρ m)) (c .before .before .change-row2 .ensures ρ m))
 
 pub add-product-row-spec : {M : Type 1} → statement M
 add-product-row-spec =
     tie.close
     (tie.spec
     source-of-requires
-    add-add-row
-    add-add-row-2
-    add-add-row-3
-    add-row-requires
+    add-change-row
+    add-change-row-2
+    add-change-row-3
+    change-row-requires
     same-length
     returns
     same-length-2
@@ -113,6 +113,6 @@ add-product-row-spec =
     sub-t20
     sub-t21
     add-t22
-    subtract-row-requires
+    change-row-requires-2
     same-length-3
     returns-3)

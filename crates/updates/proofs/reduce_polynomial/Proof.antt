@@ -31,8 +31,8 @@ loop-holds c =
 row-height-requires : tie.Need-row-height-requires Inv-loop μ-loop
 row-height-requires c κs = search needs
 
-subtract-row-requires : tie.Need-subtract-row-requires Inv-loop μ-loop
-subtract-row-requires c κs =
+change-row-requires : tie.Need-change-row-requires Inv-loop μ-loop
+change-row-requires c κs =
     let s = c .before .before .before .before .before in
     (still (s .pre .0) (c .before .before .before .loop .inv .1), record { to-polynomial = search needs; to-row = search needs; from-polynomial = search needs; from-row = search needs; differ = λ e d. s .pre .1 .2 e })
 
@@ -48,7 +48,7 @@ loop-again c =
       search needs,
       search needs,
       λ ρ m. turns-same _ (λ S p r i hp hr hi. reduced-more _ (s .pre .0 .known) _ _ _ (s .pre .1 .2) ρ S _ _ p r i)
-          (turns-both _ (c .before .before .before .before .before .before .loop .inv .2 ρ m) (rw (c .before .before .before .before .row-height .ensures) at (c .before .before .subtract-row .ensures ρ m))),
+          (turns-both _ (c .before .before .before .before .before .before .loop .inv .2 ρ m) (rw (c .before .before .before .before .row-height .ensures) at (c .before .before .change-row .ensures ρ m))),
     )
 
 same-length : tie.Need-same-length Inv-loop μ-loop
@@ -68,7 +68,7 @@ reduce-polynomial-spec =
     mul-r-end
     loop-holds
     row-height-requires
-    subtract-row-requires
+    change-row-requires
     add-r
     loop-less
     loop-again

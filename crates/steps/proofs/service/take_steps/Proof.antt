@@ -7,6 +7,7 @@ use native.Mathlib.Nat.{sub-zero}
 use native.Mathlib.Omega.{arith}
 use lib.ListN.{length}
 use borrow.Author.Needs.{needs}
+use Rattle.symbols.specs.Sizes.{mostPolynomials}
 use Rattle.curve.proofs.CodeLaws.{code-below}
 use Rattle.published.specs.Start.{stepCount}
 use Rattle.workarea.specs.Heights.{Heights}
@@ -21,7 +22,7 @@ use Rattle.steps.proofs.service.take_steps.Tie as tie
 
 abbrev Inv-loop : tie.InvT-loop
 Inv-loop table steps work₀ votes₀ q u left₀ heights₀ done₀ work votes left heights done =
-    (done ≤ steps) × (length work ≡ length work₀) × (length votes ≡ length votes₀) × (left ≡ votesBelow q u (stepCount q - done)) × Heights q heights × (length heights ≡ 8)
+    (done ≤ steps) × (length work ≡ length work₀) × (length votes ≡ length votes₀) × (left ≡ votesBelow q u (stepCount q - done)) × Heights q heights × (length heights ≡ mostPolynomials)
     × ((row rest rest′ : List ℕ) → work₀ ≡ pictureAfter q u row 0 ++ rest → votes₀ ≡ votesAfter q u row 0 ++ rest′
     → (work ≡ pictureAfter q u row done ++ rest) × (votes ≡ votesAfter q u row done ++ rest′) × BelowAfter q u row done heights)
 

@@ -19,8 +19,8 @@ returns c =
     let s = c .before .before in
     unvoted-negative _ (s .pre .0 .known) _ _ _ (negative-yes _ (rw (k-is s) at (c .if1 .taken))) refl refl
 
-looked-at-requires : tie.Need-looked-at-requires
-looked-at-requires c κs =
+negative-at-requires : tie.Need-negative-at-requires
+negative-at-requires c κs =
     let s = c .before .before in
     let e = k-is s in
     (s .pre .0, rw e (s .pre .1 .0, s .pre .1 .1, s .pre .1 .2, negative-no _ (rw e at (c .if1 .left))))
@@ -30,7 +30,7 @@ returns-2 c =
     λ S narrow z.
     let s = c .before .before .before in
     let e = k-is s in
-    unvoted-whole _ (s .pre .0 .known) _ _ _ (negative-no _ (rw e at (c .before .if1 .left))) (rw e at (c .looked-at .ensures S narrow z)) refl
+    unvoted-whole _ (s .pre .0 .known) _ _ _ (negative-no _ (rw e at (c .before .if1 .left))) (rw e at (c .negative-at .ensures S narrow z)) refl
 
 pub in-unvoted-step-spec : {M : Type 1} → statement M
-in-unvoted-step-spec = tie.close (tie.spec returns looked-at-requires returns-2)
+in-unvoted-step-spec = tie.close (tie.spec returns negative-at-requires returns-2)

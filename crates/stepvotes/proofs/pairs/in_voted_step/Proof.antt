@@ -14,8 +14,8 @@ use Rattle.stepvotes.proofs.pairs.in_voted_step.Tie as tie
 k-is : (c : tie.Start) → toZ w64 (ofZ w64 (c .args .k)) ≡ c .args .k
 k-is c = back (c .args .k) (omega (arith, c .pre .1 .2))
 
-looked-at-requires : tie.Need-looked-at-requires
-looked-at-requires c κs =
+negative-at-requires : tie.Need-negative-at-requires
+negative-at-requires c κs =
     let s = c .before .before .before in
     let e = k-is s in
     (s .pre .0 .0, rw e (s .pre .1 .0, s .pre .1 .1, s .pre .1 .2, whole-yes _ (rw e at (c .if1 .taken))))
@@ -33,7 +33,7 @@ returns c =
     let e = k-is s in
     let known = s .pre .0 .0 .known in
     voted-whole _ known _ _ _ μ (whole-yes _ (rw e at (c .before .before .before .if1 .taken)))
-    (quotient-is _ known _ _ _ _ _ μ (rw e at (c .before .before .looked-at .ensures S narrow z)) is (c .before .inverse .ensures) (c .product-in .ensures))
+    (quotient-is _ known _ _ _ _ _ μ (rw e at (c .before .before .negative-at .ensures S narrow z)) is (c .before .inverse .ensures) (c .product-in .ensures))
     is
 
 returns-2 : tie.Need-returns-2
@@ -44,4 +44,4 @@ returns-2 c =
 
 pub in-voted-step-spec : {M : Type 1} → statement M
 in-voted-step-spec =
-    tie.close (tie.spec looked-at-requires inverse-requires product-in-requires returns returns-2)
+    tie.close (tie.spec negative-at-requires inverse-requires product-in-requires returns returns-2)

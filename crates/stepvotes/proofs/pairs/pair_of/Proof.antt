@@ -10,6 +10,7 @@ use mir.Val.{toZ, ofZ}
 use Rattle.published.specs.Pairing.{kOf}
 use lib.ListN.{getD}
 use denote.Ref.{now}
+use Rattle.symbols.specs.Sizes.{mostQ, mostWidth, mostDegree, mostShift}
 use Rattle.symbols.specs.Rule.{symbols}
 use Rattle.published.specs.Start.{Polynomials}
 use Rattle.workarea.specs.Area.{cellsOf, Starts}
@@ -28,15 +29,15 @@ total c = let s = c .before .before .before .before .before in s .args .q * c .l
 
 -- how large its parts are
 record Small (q a i s : ℕ) : Type 0 where
-  first : q * a ≤ 4 * 23
-  second : (q + 1) * i ≤ 5 * 4
-  all : q * a + (q + 1) * i + s ≤ 1000
+  first : q * a ≤ mostQ * mostWidth
+  second : (q + 1) * i ≤ (mostQ + 1) * mostQ
+  all : q * a + (q + 1) * i + s ≤ mostDegree
 
 small : (c : tie.After-leading-below) → let s = c .before .before .before .before .before in Small (s .args .q) (c .leading-below .result .degree) (s .args .i) (s .args .s)
 small c =
     let s = c .before .before .before .before .before in
-    let first = mul-le-mul {n₁ = s .args .q} {m₁ = c .leading-below .result .degree} {n₂ = 4} {m₂ = 23} (omega (arith, s .pre .0 .few)) (omega (arith, s .pre .0 .narrow, c .leading-below .ensures .0)) in
-    let second = mul-le-mul {n₁ = s .args .q + 1} {m₁ = s .args .i} {n₂ = 5} {m₂ = 4} (omega (arith, s .pre .0 .few)) (omega (arith, s .pre .0 .few)) in
+    let first = mul-le-mul {n₁ = s .args .q} {m₁ = c .leading-below .result .degree} {n₂ = mostQ} {m₂ = mostWidth} (omega (arith, s .pre .0 .few)) (omega (arith, s .pre .0 .narrow, c .leading-below .ensures .0)) in
+    let second = mul-le-mul {n₁ = s .args .q + 1} {m₁ = s .args .i} {n₂ = mostQ + 1} {m₂ = mostQ} (omega (arith, s .pre .0 .few)) (omega (arith, s .pre .0 .few)) in
     record { first = first; second = second; all = omega arith }
 
 parts : (c : tie.After-leading-below) → Divided (c .before .before .before .before .before .args .q) (total c)
@@ -61,16 +62,16 @@ module _ (c : tie.After-leading-of) where
   abbrev kIs : ℤ
   kIs = kOf (c .before .before .before .before .before .before .before .before .before .args .q) (total (c .before .before .before .before))
 
-  low : natAbs k ≤ 1000
+  low : natAbs k ≤ mostDegree
   low = rw (c .before .quotient-of .ensures) (k-small _ _ (parts (c .before .before .before .before)))
 
-  degree : c .leading-of .result .degree ≤ 1000
+  degree : c .leading-of .result .degree ≤ mostDegree
   degree = omega (arith, c .before .before .before .before .before .before .before .before .before .pre .0 .narrow, c .leading-of .ensures .0)
 
   c-is : toZ w64 (ofZ w64 (toZ w64 (c .leading-of .result .degree) -ℤ toZ w64 (ofZ w64 k))) ≡ pos (c .leading-of .result .degree) -ℤ kIs
   c-is = less-value _ k degree low ∙ ap (λ (z : ℤ). pos (c .leading-of .result .degree) -ℤ z) (c .before .quotient-of .ensures)
 
-  c-small : natAbs (toZ w64 (ofZ w64 (toZ w64 (c .leading-of .result .degree) -ℤ toZ w64 (ofZ w64 k)))) ≤ 2000
+  c-small : natAbs (toZ w64 (ofZ w64 (toZ w64 (c .leading-of .result .degree) -ℤ toZ w64 (ofZ w64 k)))) ≤ mostShift
   c-small = rw (less-value _ k degree low) (less-small _ k degree low)
 
   k-is : toZ w64 (ofZ w64 k) ≡ kIs
@@ -132,14 +133,14 @@ in-voted-step-requires : tie.Need-in-voted-step-requires
 in-voted-step-requires c κs =
     let d = c .before .before in
     let s = c .before .before .before .before .before .before .before .before .before .before .before in
-    let small-k : natAbs (kIs d) ≤ 1000 = k-small _ _ (parts (d .before .before .before .before)) in
+    let small-k : natAbs (kIs d) ≤ mostDegree = k-small _ _ (parts (d .before .before .before .before)) in
     ((s .pre .0, s .pre .1 .1 .2), rw (d .before .before .remainder .ensures, k-is d) (s .pre .1 .1 .0, parts (d .before .before .before .before) .part, small-k))
 
 in-unvoted-step-requires : tie.Need-in-unvoted-step-requires
 in-unvoted-step-requires c κs =
     let d = c .before .before in
     let s = c .before .before .before .before .before .before .before .before .before .before .before in
-    let small-k : natAbs (kIs d) ≤ 1000 = k-small _ _ (parts (d .before .before .before .before)) in
+    let small-k : natAbs (kIs d) ≤ mostDegree = k-small _ _ (parts (d .before .before .before .before)) in
     (s .pre .0, rw (d .before .before .remainder .ensures, k-is d) (s .pre .1 .1 .0, parts (d .before .before .before .before) .part, small-k))
 
 -- the bounds of the pair, where its partner is what the remainder gave

@@ -5,6 +5,7 @@ use Prim.Native.Nat.{ℕ, _-_, _≤_, _<_}
 use native.Mathlib.Omega.{arith}
 use lib.ListN.{length, length-set}
 use Rattle.lists.proofs.Put.{set-holds}
+use Rattle.symbols.specs.Sizes.{mostQ}
 use Rattle.symbols.specs.Rule.{symbols}
 use Rattle.published.specs.Start.{Polynomials}
 use Rattle.published.specs.Pairing.{isVoted, pairing}
@@ -17,7 +18,7 @@ use Rattle.stepvotes.proofs.pairs.pairs_of.Tie as tie
 
 abbrev Inv-loop : tie.InvT-loop
 Inv-loop table work q heights s voted pairs₀ i₀ pairs i =
-    (i ≤ q) × (length pairs ≡ 4) × ((j : ℕ) → j < i → Held q (pairAt pairs j))
+    (i ≤ q) × (length pairs ≡ mostQ) × ((j : ℕ) → j < i → Held q (pairAt pairs j))
     × ((S : Polynomials (symbols q) q) (u : ℕ) → Narrow q (cellsOf q S) → WithinHeights q heights (cellsOf q S) → Starts q work (cellsOf q S) → isVoted q u s ≡ voted
     → (j : ℕ) → j < i → NumbersOf q (pairAt pairs j) (pairing (symbols q) q u s S j))
 

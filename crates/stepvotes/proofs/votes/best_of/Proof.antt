@@ -4,6 +4,7 @@ use mathlib.Core.Path.{_≡_}
 use Prim.Native.Nat.{ℕ, _+_, _-_, _*_, _≤_, _<_}
 use native.Mathlib.Omega.{arith}
 use lib.ListN.{getD}
+use Rattle.symbols.specs.Sizes.{mostSymbols}
 use Rattle.published.specs.Pairing.{best}
 use Rattle.workarea.proofs.Sizes.{sizes}
 use Rattle.published.proofs.Best.{best-first, best-higher, best-kept}
@@ -14,7 +15,7 @@ use Rattle.stepvotes.proofs.votes.best_of.Tie as tie
 abbrev Inv-loop : tie.InvT-loop
 Inv-loop q scores winner₀ a₀ winner a =
     (1 ≤ a) × (a ≤ q * q) × (winner < a)
-    × ((f : ℕ → ℕ) → ((b : ℕ) → b < 16 → getD scores b 0 ≡ f b) → winner ≡ best f (a - 1))
+    × ((f : ℕ → ℕ) → ((b : ℕ) → b < mostSymbols → getD scores b 0 ≡ f b) → winner ≡ best f (a - 1))
 
 abbrev μ-loop : tie.MeasureT-loop
 μ-loop q scores winner₀ a₀ winner a = q * q - a

@@ -6,6 +6,7 @@ use native.Mathlib.Nat.{mod-eq-of-lt, mod-lt}
 use native.Mathlib.Omega.{arith}
 use lib.ListN.{length, getD, length-set}
 use Rattle.lists.specs.Tables.{tab}
+use Rattle.symbols.specs.Sizes.{mostSymbols, mostShift}
 use Rattle.symbols.specs.Rule.{symbols}
 use Rattle.symbols.proofs.FieldLaws.{laws-of}
 use Rattle.published.specs.Pairing.{Pairing, score, positivePart}
@@ -20,8 +21,8 @@ use Rattle.stepvotes.proofs.votes.scores_of.Tie as tie
 
 abbrev Inv-loop : tie.InvT-loop
 Inv-loop q pairs scores₀ i₀ scores i =
-    (i ≤ q) × (length scores ≡ 16) × ((a : ℕ) → getD scores a 0 ≤ 2000 * i)
-    × ((P : ℕ → Pairing (symbols q) q) → ((j : ℕ) → j < q → NumbersOf q (pairAt pairs j) (P j)) → (a : ℕ) → a < 16 → getD scores a 0 ≡ score (symbols q) q (tab i P) a)
+    (i ≤ q) × (length scores ≡ mostSymbols) × ((a : ℕ) → getD scores a 0 ≤ mostShift * i)
+    × ((P : ℕ → Pairing (symbols q) q) → ((j : ℕ) → j < q → NumbersOf q (pairAt pairs j) (P j)) → (a : ℕ) → a < mostSymbols → getD scores a 0 ≡ score (symbols q) q (tab i P) a)
 
 abbrev μ-loop : tie.MeasureT-loop
 μ-loop q pairs scores₀ i₀ scores i = q - i
@@ -30,7 +31,7 @@ abbrev μ-loop : tie.MeasureT-loop
 gain-is : (c : tie.After-positive-part Inv-loop μ-loop)
     → let l = c .before .before .before .before .before in
     let pair = pairAt (l .before .args .t1) (l .loop .i) in
-    (c .positive-part .result ≡ positivePart (pair .c)) × (c .positive-part .result ≤ 2000)
+    (c .positive-part .result ≡ positivePart (pair .c)) × (c .positive-part .result ≤ mostShift)
 gain-is c =
     let l = c .before .before .before .before .before in
     let pair = pairAt (l .before .args .t1) (l .loop .i) in
@@ -40,7 +41,7 @@ gain-is c =
 
 loop-holds : tie.Need-loop-holds Inv-loop μ-loop
 loop-holds c =
-    (search needs, search needs, λ a. rw (replicate-at {A = ℕ} 16 a 0) (omega arith), λ P numbers a h. replicate-at 16 a 0 ∙ score-none _ P a)
+    (search needs, search needs, λ a. rw (replicate-at {A = ℕ} mostSymbols a 0) (omega arith), λ P numbers a h. replicate-at mostSymbols a 0 ∙ score-none _ P a)
 
 mul-pair : tie.Need-mul-pair Inv-loop μ-loop
 mul-pair c = omega (arith, sizes _ (c .before .before .pre .0))
@@ -49,13 +50,13 @@ array-copy-out-pair : tie.Need-array-copy-out-pair Inv-loop μ-loop
 array-copy-out-pair c = omega (arith, sizes _ (c .before .before .pre .0))
 
 cast-w : tie.Need-cast-w Inv-loop μ-loop
-cast-w c = omega (arith, mod-lt (pairAt (c .before .before .before .before .args .t1) (c .before .before .before .loop .i) .w) {m = 16} (omega arith))
+cast-w c = omega (arith, mod-lt (pairAt (c .before .before .before .before .args .t1) (c .before .before .before .loop .i) .w) {m = mostSymbols} (omega arith))
 
 mul-scores : tie.Need-mul-scores Inv-loop μ-loop
-mul-scores c = omega (arith, mod-lt (pairAt (c .before .before .before .before .before .args .t1) (c .before .before .before .before .loop .i) .w) {m = 16} (omega arith))
+mul-scores c = omega (arith, mod-lt (pairAt (c .before .before .before .before .before .args .t1) (c .before .before .before .before .loop .i) .w) {m = mostSymbols} (omega arith))
 
 array-read-scores : tie.Need-array-read-scores Inv-loop μ-loop
-array-read-scores c = omega (arith, mod-lt (pairAt (c .before .before .before .before .before .args .t1) (c .before .before .before .before .loop .i) .w) {m = 16} (omega arith))
+array-read-scores c = omega (arith, mod-lt (pairAt (c .before .before .before .before .before .args .t1) (c .before .before .before .before .loop .i) .w) {m = mostSymbols} (omega arith))
 
 positive-part-requires : tie.Need-positive-part-requires Inv-loop μ-loop
 positive-part-requires c κs =
@@ -65,13 +66,13 @@ positive-part-requires c κs =
 add-scores : tie.Need-add-scores Inv-loop μ-loop
 add-scores c =
     let w = pairAt (c .before .before .before .before .before .before .args .t1) (c .before .before .before .before .before .loop .i) .w in
-    omega (arith, gain-is c .1, c .before .before .before .before .before .loop .inv .2 (w % 16), sizes _ (c .before .before .before .before .before .before .pre .0))
+    omega (arith, gain-is c .1, c .before .before .before .before .before .loop .inv .2 (w % mostSymbols), sizes _ (c .before .before .before .before .before .before .pre .0))
 
 mul-scores-2 : tie.Need-mul-scores-2 Inv-loop μ-loop
-mul-scores-2 c = omega (arith, mod-lt (pairAt (c .before .before .before .before .before .before .args .t1) (c .before .before .before .before .before .loop .i) .w) {m = 16} (omega arith))
+mul-scores-2 c = omega (arith, mod-lt (pairAt (c .before .before .before .before .before .before .args .t1) (c .before .before .before .before .before .loop .i) .w) {m = mostSymbols} (omega arith))
 
 array-write-scores : tie.Need-array-write-scores Inv-loop μ-loop
-array-write-scores c = omega (arith, mod-lt (pairAt (c .before .before .before .before .before .before .args .t1) (c .before .before .before .before .before .loop .i) .w) {m = 16} (omega arith))
+array-write-scores c = omega (arith, mod-lt (pairAt (c .before .before .before .before .before .before .args .t1) (c .before .before .before .before .before .loop .i) .w) {m = mostSymbols} (omega arith))
 
 add-i : tie.Need-add-i Inv-loop μ-loop
 add-i c = search needs
@@ -83,17 +84,17 @@ loop-again : tie.Need-loop-again Inv-loop μ-loop
 loop-again c =
     let s = c .before .before .before .before .before .before in
     let w = pairAt (s .args .t1) (c .before .before .before .before .before .loop .i) .w in
-    let small = mod-lt w {m = 16} (omega arith) in
-    let room : w % 16 < length (c .before .before .before .before .before .loop .scores) = omega arith in
+    let small = mod-lt w {m = mostSymbols} (omega arith) in
+    let room : w % mostSymbols < length (c .before .before .before .before .before .loop .scores) = omega arith in
     let g = gain-is c in
-    let n : 2000 * c .before .before .before .before .before .loop .i + 2000 ≡ 2000 * (c .before .before .before .before .before .loop .i + 1) = omega arith in (
+    let n : mostShift * c .before .before .before .before .before .loop .i + mostShift ≡ mostShift * (c .before .before .before .before .before .loop .i + 1) = omega arith in (
       search needs,
       simp length-set (c .before .before .before .before .before .loop .inv .1),
-      rw (← n) (bounded-more (c .before .before .before .before .before .loop .scores) (w % 16) _ _ room (g .1) (c .before .before .before .before .before .loop .inv .2)),
+      rw (← n) (bounded-more (c .before .before .before .before .before .loop .scores) (w % mostSymbols) _ _ room (g .1) (c .before .before .before .before .before .loop .inv .2)),
       λ P numbers a h.
           let p = numbers (c .before .before .before .before .before .loop .i) (c .before .before .before .before .loop-test .taken) in
-          let below : w < 16 = rw (p .w) (omega (arith, laws-of _ (s .pre .0) .number-below (P (c .before .before .before .before .before .loop .i) .w), sizes _ (s .pre .0))) in
-          scores-more _ P (c .before .before .before .before .before .loop .scores) (c .before .before .before .before .before .loop .i) (w % 16) _ (mod-eq-of-lt below ∙ p .w) (g .0 ∙ ap positivePart (p .c))
+          let below : w < mostSymbols = rw (p .w) (omega (arith, laws-of _ (s .pre .0) .number-below (P (c .before .before .before .before .before .loop .i) .w), sizes _ (s .pre .0))) in
+          scores-more _ P (c .before .before .before .before .before .loop .scores) (c .before .before .before .before .before .loop .i) (w % mostSymbols) _ (mod-eq-of-lt below ∙ p .w) (g .0 ∙ ap positivePart (p .c))
           (λ b hb. c .before .before .before .before .before .loop .inv .3 P numbers b (omega arith)) a (omega arith),
     )
 

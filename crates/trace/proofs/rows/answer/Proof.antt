@@ -1,88 +1,64 @@
--- `trace::rows::answer` meets its contract: the stop service, asked for no step, makes the checks and leaves the start.
--- Assumes nothing.
+-- `trace::rows::answer` meets its contract: what q and u name decides. Assumes nothing.
+use mathlib.Core.Path.{sym, subst, _∙_}
 use native.Mathlib.Omega.{arith}
-use lib.Dec.{lit≤}
-use lib.ListN.{replicate}
-use Rattle.trace.proofs.Checked.{Begun, stop-refused, stop-done}
-use Rattle.trace.proofs.Lengths.{longest, length-refused}
 use borrow.Author.Needs.{needs}
+use denote.Ref.{now}
+use Rattle.lines.specs.Text.{Wrote}
+use Rattle.curve.specs.declared.Code.{Code}
+use Rattle.curve.proofs.Naming.{IsNamed, named-refused, named-code, named-valid}
+use Rattle.trace.specs.Trace.{answer}
+use Rattle.trace.proofs.Checked.{refused-by-code}
+use Rattle.trace.proofs.Lengths.{length-refused}
 use Rattle.trace.proofs.rows.answer.Statement.{statement}
 use Rattle.trace.proofs.rows.answer.Tie as tie
 
--- where it is done
-begun : (c : tie.After-enum-told)
-    → let called = c .before .before .before .before in
-    let a = called .before .before .before .before .before .args in
-    Begun (a .q) (a .u) (a .row .now) (replicate 1472 0) (called .stop .last .1 .1 .1 .1 .0)
-begun c =
-    let called = c .before .before .before .before in
-    let a = called .before .before .before .before .before .args in
-    stop-done (a .q) (a .u) (a .row .now) (replicate 1472 0) (replicate 64 0) (called .stop .last .1 .1 .1 .1 .0) (lit≤ tt) (lit≤ tt)
-    (called .stop .ensures .0) (called .stop .ensures .1 .0) (c .enum-told .given .1)
+-- the code that was named
+found : (c : tie.After-code) → let at = c .before .before .before .before .before in IsNamed (at .args .q) (at .args .u) (c .code .given .0 .0)
+found c = named-code _ _ (sym (c .before .before .code-of .ensures) ∙ c .code .given .1)
 
-slice-aggregate-stop : tie.Need-slice-aggregate-stop
-slice-aggregate-stop c = search needs
+code-of-requires : tie.Need-code-of-requires
+code-of-requires c κs = search needs
 
-slice-aggregate-stop-2 : tie.Need-slice-aggregate-stop-2
-slice-aggregate-stop-2 c = search needs
+enum-known-code : tie.Need-enum-known-code
+enum-known-code c = search needs
 
-stop-requires : tie.Need-stop-requires
-stop-requires c κs = search needs
-
-enum-told : tie.Need-enum-told
-enum-told c = search needs
-
-slice-aggregate-put-lines : tie.Need-slice-aggregate-put-lines
-slice-aggregate-put-lines c = search needs
-
-put-lines-requires : tie.Need-put-lines-requires
-put-lines-requires c κs =
-    let told = c .before .before in
-    let called = told .before .before .before .before in
-    let start = called .before .before .before .before .before in
-    let done = begun told in (
-      done .full,
-      ((omega (arith, called .stop .kept .1 .1 .1 .1 .0), omega (arith, start .pre, longest (start .args .q) (done .full .known))), done .shows),
-    )
+answer-under-requires : tie.Need-answer-under-requires
+answer-under-requires c κs = (named-valid _ _ (found (c .before .before)), c .before .before .before .before .before .before .before .pre)
 
 enum-known-why : tie.Need-enum-known-why
 enum-known-why c = search needs
 
 put-refusal-requires : tie.Need-put-refusal-requires
-put-refusal-requires c κs =
-    let start = c .before .before .before .before .before .before .before .before .before .before .before in
-    omega (arith, start .pre, length-refused (c .before .before .why .given .0 .0))
+put-refusal-requires c κs = omega (arith, c .before .before .before .before .before .before .before .pre, length-refused (c .before .before .why .given .0 .0))
 
 same-length : tie.Need-same-length
 same-length c = search needs
 
-returns : tie.Need-returns
-returns c =
-    let called = c .before .before .before in
-    rw (begun (called .before .before .before) .lines) (called .put-lines .ensures)
-
 same-length-2 : tie.Need-same-length-2
 same-length-2 c = search needs
+
+returns : tie.Need-returns
+returns c =
+    let called = c .before .before in
+    let at = called .before .before .before .before .before .before .before .before .args in
+    subst
+    (λ (code : Code). Wrote (now (at .out)) 0 (answer (code .q) (code .u) (now (at .row))) (called .answer-under .last .0) (called .answer-under .result))
+    (found (called .before .before .before) .is) (called .answer-under .ensures)
 
 returns-2 : tie.Need-returns-2
 returns-2 c =
     let called = c .before .before in
-    let told = called .before .before in
-    let stopped = told .before .before .before .before .before in
-    let a = stopped .before .before .before .before .before .args in
-    rw (stop-refused (a .q) (a .u) (a .row .now) (replicate 1472 0) (replicate 64 0) (lit≤ tt) (lit≤ tt) (stopped .stop .ensures .0) (told .before .why .given .1))
+    let why = called .before .before .before in
+    rw (refused-by-code _ _ (now (why .before .before .before .before .before .args .row)) (named-refused _ _ (sym (why .before .before .code-of .ensures) ∙ why .why .given .1)))
     (called .put-refusal .ensures)
 
 pub answer-spec : {M : Type 1} → statement M
 answer-spec =
     tie.close
     (tie.spec
-    slice-aggregate-stop
-    slice-aggregate-stop-2
-    stop-requires
-    enum-told
-    slice-aggregate-put-lines
-    put-lines-requires
+    code-of-requires
+    enum-known-code
+    answer-under-requires
     enum-known-why
     put-refusal-requires
     same-length

@@ -7,7 +7,6 @@ use native.Mathlib.Omega.{arith}
 use borrow.Author.Needs.{needs}
 use lib.ListN.{length}
 use Rattle.published.specs.Start.{stepCount}
-use Rattle.workarea.proofs.Sizes.{sizes}
 use Rattle.request.specs.Request.{line}
 use Rattle.steplines.specs.StepLines.{stepSize}
 use Rattle.steplines.proofs.Lengths.{length-steps}
@@ -18,20 +17,20 @@ use Rattle.trace.proofs.rows.put_lines.Statement.{statement}
 use Rattle.trace.proofs.rows.put_lines.Tie as tie
 
 -- the first line fits
-first-fits : (c : tie.Start) → 0 + length (line (c .args .q ∷ c .args .u ∷ [])) ≤ length (c .args .out .now)
+first-fits : (c : tie.Start) → 0 + length (line (c .args .code .q ∷ c .args .code .u ∷ [])) ≤ length (c .args .out .now)
 unfolding traceSize
-first-fits c = omega (arith, length-first-line (c .args .q) (c .args .u) (c .pre .0 .code), c .pre .1 .0 .1)
+first-fits c = omega (arith, length-first-line (c .args .code .q) (c .args .code .u) (c .pre .0 .1 .code), c .pre .1 .0 .1)
 
 -- and after it the steps' lines and the last one do
 rest-fits : (c : tie.After-put-code)
     → let a = c .before .before .before .before .before .args in
-    c .put-code .result + stepCount (a .q) * stepSize (a .q) + lastSize (a .q) ≤ length (c .put-code .last .0)
+    c .put-code .result + stepCount (a .code .q) * stepSize (a .code .q) + lastSize (a .code .q) ≤ length (c .put-code .last .0)
 unfolding traceSize
 rest-fits c =
     let start = c .before .before .before .before .before in
     omega (
       arith,
-      length-first-line (start .args .q) (start .args .u) (start .pre .0 .code),
+      length-first-line (start .args .code .q) (start .args .code .u) (start .pre .0 .1 .code),
       c .put-code .ensures .place,
       c .put-code .kept .0,
       start .pre .1 .0 .1,
@@ -44,8 +43,8 @@ put-steps-requires : tie.Need-put-steps-requires
 put-steps-requires c κs =
     let code = c .before .before .before .before in
     let start = code .before .before .before .before .before in
-    let known = start .pre .0 .known in (
-      (known, omega (arith, sizes (start .args .q) known .area, start .pre .1 .0 .0), omega (arith, rest-fits code)),
+    let known = start .pre .0 .0 .known in (
+      (known, start .pre .1 .0 .0, omega (arith, rest-fits code)),
       record { row = start .args .row .now; shows = start .pre .1 .1 },
     )
 
@@ -59,7 +58,7 @@ put-last-requires c κs =
       start .pre .0,
       (
         omega (arith, steps .put-steps .kept .1 .1 .1 .1 .0, start .pre .1 .0 .0),
-        omega (arith, rest-fits code, length-steps (a .q) (a .u) (a .row .now) (stepCount (a .q)), lines .place, steps .put-steps .kept .0),
+        omega (arith, rest-fits code, length-steps (a .code .q) (a .code .u) (a .row .now) (stepCount (a .code .q)), lines .place, steps .put-steps .kept .0),
       ),
     )
 
@@ -76,8 +75,8 @@ returns c =
     let code = steps .before .before .before .before .before in
     let start = code .before .before .before .before .before in
     let a = start .args in
-    wrote-all (a .q) (a .u) (a .row .now) (first-fits start)
-    (omega (arith, rest-fits code, length-steps (a .q) (a .u) (a .row .now) (stepCount (a .q)))) (code .put-code .ensures)
+    wrote-all (a .code .q) (a .code .u) (a .row .now) (first-fits start)
+    (omega (arith, rest-fits code, length-steps (a .code .q) (a .code .u) (a .row .now) (stepCount (a .code .q)))) (code .put-code .ensures)
     (steps .put-steps .ensures (a .row .now) (start .pre .1 .1)) (last .put-last .ensures)
 
 pub put-lines-spec : {M : Type 1} → statement M

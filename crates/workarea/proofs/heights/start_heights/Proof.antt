@@ -5,6 +5,7 @@ use Prim.Native.Nat.{ℕ, _-_, _*_, _<_, _≤_}
 use native.Mathlib.Omega.{arith}
 use lib.ListN.{length, getD, length-set}
 use borrow.Author.Needs.{needs}
+use Rattle.symbols.specs.Sizes.{mostPolynomials}
 use Rattle.lists.proofs.Put.{set-holds}
 use Rattle.lists.proofs.Tables.{replicate-at}
 use Rattle.workarea.proofs.Sizes.{sizes}
@@ -18,7 +19,7 @@ record Placed (q n height : ℕ) : Type 0 where
 
 abbrev Inv-loop : tie.InvT-loop
 Inv-loop q heights₀ p₀ p-end heights p =
-    (q ≤ p) × (p ≤ 2 * q) × (p-end ≡ 2 * q) × (length heights ≡ 8) × ((n : ℕ) → n < p → Placed q n (getD heights n 0))
+    (q ≤ p) × (p ≤ 2 * q) × (p-end ≡ 2 * q) × (length heights ≡ mostPolynomials) × ((n : ℕ) → n < p → Placed q n (getD heights n 0))
 
 abbrev μ-loop : tie.MeasureT-loop
 μ-loop q heights₀ p₀ p-end heights p = 2 * q - p
@@ -28,7 +29,7 @@ mul-p-end c = omega (arith, sizes _ (c .pre) .few)
 
 loop-holds : tie.Need-loop-holds Inv-loop μ-loop
 loop-holds c =
-    (search needs, omega arith, search needs, search needs, λ n h. record { g-none = λ z. replicate-at 8 n 0; f-one = λ z. absurd (omega arith) })
+    (search needs, omega arith, search needs, search needs, λ n h. record { g-none = λ z. replicate-at mostPolynomials n 0; f-one = λ z. absurd (omega arith) })
 
 mul-heights : tie.Need-mul-heights Inv-loop μ-loop
 mul-heights c = omega (arith, sizes _ (c .before .before .pre) .few)

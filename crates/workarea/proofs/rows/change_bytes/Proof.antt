@@ -1,21 +1,20 @@
--- Each turn stores the next byte of the difference; what it reads, no turn before has changed.
+-- Each turn stores the next byte of the sum or the difference; what it reads, no turn before has changed.
 -- Assumes nothing.
 use mathlib.Core.Path.{_≡_, sym}
 use Prim.Native.Nat.{_-_, _≤_}
 use lib.ListN.{length, length-set}
 use native.Mathlib.Omega.{arith}
 use Rattle.workarea.proofs.Bytes.{made-none, made-more}
-use Rattle.workarea.specs.Area.{made}
-use Rattle.symbols.specs.Rule.{differenceOf}
+use Rattle.workarea.specs.Area.{numbersMade, made}
 use borrow.Author.Needs.{needs}
-use Rattle.workarea.proofs.rows.subtract_bytes.Statement.{statement}
-use Rattle.workarea.proofs.rows.subtract_bytes.Tie as tie
+use Rattle.workarea.proofs.rows.change_bytes.Statement.{statement}
+use Rattle.workarea.proofs.rows.change_bytes.Tie as tie
 
 abbrev Inv-loop : tie.InvT-loop
-Inv-loop work₀ q to from count products i₀ work i = (i ≤ count) × (work ≡ made (differenceOf q) work₀ to from i products) × (length work ≡ length work₀)
+Inv-loop work₀ q minus to from count products i₀ work i = (i ≤ count) × (work ≡ made (numbersMade q minus) work₀ to from i products) × (length work ≡ length work₀)
 
 abbrev μ-loop : tie.MeasureT-loop
-μ-loop work₀ q to from count products i₀ work i = count - i
+μ-loop work₀ q minus to from count products i₀ work i = count - i
 
 loop-holds : tie.Need-loop-holds Inv-loop μ-loop
 loop-holds c = (search needs, sym (made-none _ _ _ _ _), search needs)
@@ -29,17 +28,17 @@ slice-read-factor c = search needs
 cast-factor : tie.Need-cast-factor Inv-loop μ-loop
 cast-factor c = search needs
 
-add-difference : tie.Need-add-difference Inv-loop μ-loop
-add-difference c = search needs
+add-sum-or-difference : tie.Need-add-sum-or-difference Inv-loop μ-loop
+add-sum-or-difference c = search needs
 
-slice-read-difference : tie.Need-slice-read-difference Inv-loop μ-loop
-slice-read-difference c = search needs
+slice-read-sum-or-difference : tie.Need-slice-read-sum-or-difference Inv-loop μ-loop
+slice-read-sum-or-difference c = search needs
 
-array-read-difference : tie.Need-array-read-difference Inv-loop μ-loop
-array-read-difference c = search needs
+array-read-sum-or-difference : tie.Need-array-read-sum-or-difference Inv-loop μ-loop
+array-read-sum-or-difference c = search needs
 
-difference-requires : tie.Need-difference-requires Inv-loop μ-loop
-difference-requires c κs = search needs
+sum-or-difference-requires : tie.Need-sum-or-difference-requires Inv-loop μ-loop
+sum-or-difference-requires c κs = search needs
 
 add-work : tie.Need-add-work Inv-loop μ-loop
 add-work c = search needs
@@ -57,7 +56,7 @@ loop-again : tie.Need-loop-again Inv-loop μ-loop
 loop-again c =
     let l = c .before .before .before .before in (
       search needs,
-      rw (c .difference .ensures) (made-more _ _ _ _ _ _ _ _ (l .before .before .pre .1) (c .before .before .before .loop-test .taken) (l .loop .inv .1)),
+      rw (c .sum-or-difference .ensures) (made-more _ _ _ _ _ _ _ _ (l .before .before .pre .1) (c .before .before .before .loop-test .taken) (l .loop .inv .1)),
       simp length-set (l .loop .inv .2),
     )
 
@@ -69,8 +68,8 @@ returns c =
     let e : c .before .loop .i ≡ c .before .before .before .args .count = omega arith in
     rw e at (c .before .loop .inv .1)
 
-pub subtract-bytes-spec : {M : Type 1} → statement M
-subtract-bytes-spec =
+pub change-bytes-spec : {M : Type 1} → statement M
+change-bytes-spec =
     tie.close
     (tie.spec
     Inv-loop
@@ -79,10 +78,10 @@ subtract-bytes-spec =
     add-factor
     slice-read-factor
     cast-factor
-    add-difference
-    slice-read-difference
-    array-read-difference
-    difference-requires
+    add-sum-or-difference
+    slice-read-sum-or-difference
+    array-read-sum-or-difference
+    sum-or-difference-requires
     add-work
     slice-write-work
     add-i

@@ -1,19 +1,19 @@
--- The bytes that are reached are those of the row with the multiple added, and the others stay.
+-- The bytes that are reached are those of the row with the multiple added or subtracted, and the others stay.
 -- Assumes nothing.
 use mathlib.Core.Path.{_∙_}
 use mathlib.Core.Logic.{⊎-elim, inl, inr}
 use native.Mathlib.Omega.{arith}
 use Rattle.workarea.proofs.Cells.{row-fits, rows-differ}
-use Rattle.workarea.proofs.RowLaws.{sums, row-law}
+use Rattle.workarea.proofs.RowLaws.{signed, row-law}
 use borrow.Author.Needs.{needs}
-use Rattle.workarea.proofs.area.add_row.Statement.{statement}
-use Rattle.workarea.proofs.area.add_row.Tie as tie
+use Rattle.workarea.proofs.area.change_row.Statement.{statement}
+use Rattle.workarea.proofs.area.change_row.Tie as tie
 
 run-of-requires : tie.Need-run-of-requires
 run-of-requires c κs = let s = c .before in (s .pre .0 .known, s .pre .1)
 
-add-bytes-requires : tie.Need-add-bytes-requires
-add-bytes-requires c κs =
+change-bytes-requires : tie.Need-change-bytes-requires
+change-bytes-requires c κs =
     let s = c .before .before .before in
     let rows = s .pre .1 in
     let run = c .before .run-of .ensures in
@@ -35,10 +35,10 @@ returns c =
           let known = s .pre .0 .known in
           let rows = s .pre .1 in
           let run = c .before .before .before .before .run-of .ensures in
-          c .before .before .add-bytes .ensures
+          c .before .before .change-bytes .ensures
           ∙ row-law _ known S _ rest e _ _ _ _ (rows .to-polynomial) (rows .to-row) (rows .from-polynomial) (rows .from-row) _ ρ m
-          _ _ (sums _ known) _ _ _ _ _ (run .other) (run .which);
+          _ _ (signed _ known (s .args .minus)) _ _ _ _ _ (run .other) (run .which);
     }
 
-pub add-row-spec : {M : Type 1} → statement M
-add-row-spec = tie.close (tie.spec run-of-requires add-bytes-requires same-length returns)
+pub change-row-spec : {M : Type 1} → statement M
+change-row-spec = tie.close (tie.spec run-of-requires change-bytes-requires same-length returns)
