@@ -10,8 +10,8 @@ use lib.ListN.{length, getD}
 use borrow.Author.Tests.{eqb-true, leb-true}
 use Rattle.lists.proofs.Tables.{length-tab, getD-tab}
 use Rattle.layout.proofs.Laying.{Symbolic}
-use Rattle.taperow.specs.Laying.{codeRow}
-use Rattle.taperow.proofs.CodeRow.{code-length, code-small}
+use Rattle.laying.specs.Laying.{codeRow}
+use Rattle.laying.proofs.CodeRow.{code-length, code-small}
 use Rattle.block.specs.Writing.{rowsFilled, isPayload, codeRows}
 
 -- what is known of a payload that can be written

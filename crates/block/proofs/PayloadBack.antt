@@ -11,13 +11,13 @@ use Rattle.lists.proofs.Tables.{getD-tab, getD-join, tab-is}
 use Rattle.voting.specs.Voting.{voted}
 use Rattle.decoder.proofs.ReadingBack.{voted-row}
 use Rattle.voting.proofs.Votes.{voted-count}
-use Rattle.layout.specs.Packing.{symbolIn, packedByte, packed}
+use Rattle.packing.specs.Packing.{symbolIn, packedByte, packed}
 use Rattle.layout.specs.Layout.{tapeQ, tapeU, messageLength, rowCount, blockRow, payloadRow}
-use Rattle.layout.proofs.Packed.{byte-back}
-use Rattle.taperow.specs.Laying.{codeRow}
+use Rattle.packing.proofs.Packed.{byte-back}
+use Rattle.laying.specs.Laying.{codeRow}
 use Rattle.block.specs.Writing.{isPayload, blockFor, payloadOf}
-use Rattle.taperow.proofs.Tape.{dimension-is}
-use Rattle.taperow.proofs.CodeRow.{message-of}
+use Rattle.laying.proofs.TapeCode.{dimension-is}
+use Rattle.laying.proofs.CodeRow.{message-of}
 use Rattle.block.proofs.CodeRows.{fills}
 use Rattle.block.proofs.Unchanged.{written-count, written-row}
 

@@ -17,12 +17,12 @@ use Rattle.taperow.specs.Reading.{rowRecord}
 use Rattle.verifying.specs.Verification.{verdictFrom, allRecords, checksFor, verifyChecks, verifyAnswer}
 use Rattle.verifying.specs.Verification.{verifyRecords}
 use Rattle.verifying.specs.AsBytes.{recordBytes, byteChecks, verifyBytesAnswer, verifyBytesRecords}
-use Rattle.taperow.specs.Laying.{codeRow}
+use Rattle.laying.specs.Laying.{codeRow}
 use Rattle.block.specs.Writing.{rowsFilled, isPayload, codeRows, blockFor}
 use Rattle.block.specs.Untouched.{unchanged, Untouched}
 use Rattle.taperow.specs.declared.Record.{Record}
 use Rattle.verifying.specs.declared.Verified.the-variants.{Copied, Refused}
-use Rattle.taperow.proofs.CodeRow.{unchanged-row}
+use Rattle.taperow.proofs.AsLaid.{unchanged-row}
 use Rattle.block.proofs.CodeRows.{fills, rows-count, row-is, rows-symbolic}
 
 -- rows of which none is changed are Copied with the sum so far

@@ -13,13 +13,13 @@ use borrow.Author.Tests.{ltb-false, not-false}
 use Rattle.refusals.specs.declared.Refusal.{Refusal}
 use Rattle.refusals.proofs.Checks.{Refuses, Passes, done, clear, refused, passed, decideChecks}
 use Rattle.lists.proofs.Pasted.{over-next}
-use Rattle.layout.specs.Packing.{packed}
+use Rattle.packing.specs.Packing.{packed}
 use Rattle.layout.specs.Layout.{blockLength, headerOf}
 use Rattle.layout.proofs.Headers.{behind-header}
 use Rattle.layout.proofs.Laying.{laid-length, laid-header, row-bytes}
 use Rattle.block.specs.declared.Written.{Written}
 use Rattle.block.specs.declared.Written.the-variants.{Length, Refused}
-use Rattle.taperow.specs.Laying.{codeRow}
+use Rattle.laying.specs.Laying.{codeRow}
 use Rattle.block.specs.Writing.{rowsFilled, isPayload, codeRows, blockFor, writeChecks, writeAnswer, writeBlock}
 use Rattle.block.specs.Untouched.{Untouched}
 use Rattle.block.proofs.CodeRows.{fills, rows-count, row-is}

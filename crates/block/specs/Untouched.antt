@@ -9,7 +9,7 @@ use lib.ListN.{length, drop, replicate}
 use Rattle.published.specs.Picture.{areaSize}
 use Rattle.layout.specs.Layout.{tapeQ, rowCount, isBlock, blockRow}
 use Rattle.verifying.specs.Verification.{verifyAnswer, verifyRecords}
-use Rattle.taperow.specs.Laying.{codeRow}
+use Rattle.laying.specs.Laying.{codeRow}
 use Rattle.taperow.specs.declared.Record.{Record}
 use Rattle.verifying.specs.declared.Verified.the-variants.{Copied}
 

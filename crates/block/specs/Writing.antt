@@ -9,9 +9,9 @@ use Rattle.refusals.specs.declared.Refusal.the-variants.{ShortOutput, WrongPayl
 use Rattle.refusals.specs.Numbers.{Check, _if_, firstOf}
 use Rattle.lists.specs.Tables.{tab, join}
 use Rattle.voting.specs.Voting.{voted}
-use Rattle.layout.specs.Packing.{packed}
+use Rattle.packing.specs.Packing.{packed}
 use Rattle.layout.specs.Layout.{tapeQ, tapeU, rowCount, blockLength, blockRow, blockOf}
-use Rattle.taperow.specs.Laying.{codeRow}
+use Rattle.laying.specs.Laying.{codeRow}
 use Rattle.block.specs.declared.Written.{Written}
 use Rattle.block.specs.declared.Written.the-variants.{Length, Refused}
 

@@ -11,9 +11,9 @@ ghost use lib.ListN.{take};
 ghost use Rattle.block.specs.declared.Written.the-variants.{Length};
 ghost use Rattle.block.specs.Writing.{writeAnswer, writeBlock};
 ghost use Rattle.block.specs.Untouched.{Untouched};
+use laying::lay_row;
 use layout::put_header;
 use refusals::Refusal;
-use taperow::lay_row;
 use writing::is_payload;
 
 // What writing a block answers.

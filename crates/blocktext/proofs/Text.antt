@@ -26,8 +26,9 @@ use Rattle.verifying.proofs.Start.{fit}
 use Rattle.verifying.specs.declared.Verified.{Verified}
 use Rattle.verifying.specs.declared.Verified.the-variants.{Copied, Differs, Unreadable, Refused}
 use Rattle.verifying.proofs.Verified.{the-type}
-use Rattle.blocktext.specs.Report.{recordLines, verdictLine, lineAt, rowsTold}
-use Rattle.blocktext.proofs.Joined.{join-same}
+use Rattle.rowlines.specs.RowLines.{lineAt}
+use Rattle.blocktext.specs.Report.{recordLines, verdictLine, rowsTold}
+use Rattle.rowlines.proofs.Joined.{join-same}
 use Rattle.blocktext.proofs.RecordBytes.{state-of, count-of}
 
 -- the tag of Refused is none of the others'

@@ -1,13 +1,12 @@
 -- What blockcheck prints for a block and its payload: a line for each row that has something to tell, and a last line with the
--- verdict. And what blockwrite prints.
+-- verdict.
 -- Assumes nothing.
-use mathlib.Core.Bool.{Bool, true, false, not, _&&_}
 use mathlib.Core.List.{List, [], _∷_, _++_}
-use Prim.Native.Nat.{ℕ, _+_, _*_, _/_}
-use lib.Dec.{eqb}
-use lib.ListN.{getD, replicate}
+use Prim.Native.Nat.{ℕ, _/_}
+use lib.ListN.{replicate}
 use Rattle.lists.specs.Tables.{join}
 use Rattle.lines.specs.Text.{ascii, digits}
+use Rattle.rowlines.specs.RowLines.{rowLine}
 use Rattle.refusals.specs.Numbers.{refusalNumber, firstOf}
 use Rattle.layout.specs.Layout.{rowCount}
 use Rattle.taperow.specs.Reading.{rowRecord}
@@ -16,24 +15,6 @@ use Rattle.verifying.specs.AsBytes.{byteChecks}
 use Rattle.taperow.specs.declared.Record.{Record}
 use Rattle.verifying.specs.declared.Verified.{Verified}
 use Rattle.verifying.specs.declared.Verified.the-variants.{Copied, Differs, Unreadable, Refused}
-use Rattle.block.specs.declared.Written.{Written}
-use Rattle.block.specs.declared.Written.the-variants.{Length, Refused as Unwritten}
-
--- a row in state 0 with no count has nothing to tell
-unfoldable pub tells : ℕ → ℕ → Bool
-tells state count = not (eqb state 0 && eqb count 0)
-
--- "row 3 state 0 count 2"
-unfoldable pub toldLine : ℕ → ℕ → ℕ → List ℕ
-toldLine r state count =
-    (ascii "row " ++ digits r) ++ (ascii " state " ++ digits state) ++ (ascii " count " ++ digits count) ++ (10 ∷ [])
-
-unfoldable pub rowLine : ℕ → ℕ → ℕ → List ℕ
-rowLine r state count = elim (tells state count) [ true ↦ toldLine r state count | false ↦ [] ]
-
--- the line of row r, whose record stands in the bytes 2r and 2r + 1
-unfoldable pub lineAt : List ℕ → ℕ → List ℕ
-lineAt records r = rowLine r (getD records (2 * r) 0) (getD records (2 * r + 1) 0)
 
 -- the lines of the first n rows
 unfoldable pub recordLines : (ℕ → Record) → ℕ → List ℕ
@@ -58,8 +39,3 @@ unfoldable pub checkText : List ℕ → List ℕ → List ℕ
 checkText block payload =
     firstOf (byteChecks block payload (replicate 2048 0) (replicate 1472 0)) (λ why. verdictLine (Refused why))
     (recordLines (rowRecord block payload) (rowCount block) ++ verdictLine (verdictFrom 0 0 (allRecords block payload)))
-
--- blockwrite's line
-unfoldable pub writtenLine : Written → List ℕ
-writtenLine (Length bytes) = ascii "wrote " ++ digits bytes ++ (10 ∷ [])
-writtenLine (Unwritten why) = ascii "refuse " ++ digits (refusalNumber why) ++ (10 ∷ [])

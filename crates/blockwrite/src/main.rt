@@ -7,7 +7,7 @@ use libc::STDOUT_FILENO;
 // Prints what writing answered.
 fn report(written: Written) {
     let mut line = [0u8; 32];
-    let end = blocktext::written_text(written, &mut line);
+    let end = writetext::written_text(written, &mut line);
     io::write_all(STDOUT_FILENO, &line[..end]);
 }
 

@@ -10,11 +10,11 @@ use lib.Seq.{take-at, drop-drop, getD-take, getD-drop, length-take-le}
 use borrow.Author.Tests.{eq-eqb}
 use Rattle.lists.specs.Tables.{tab}
 use Rattle.lists.proofs.Tables.{getD-tab, tab-is}
-use Rattle.layout.specs.Packing.{symbolIn, packedByte, packed}
+use Rattle.packing.specs.Packing.{symbolIn, packedByte, packed}
 use Rattle.layout.specs.Layout.{rowLength, rowCount, blockLength, isBlock, headerOf, symbolPlace, rowAt, columnAt}
 use Rattle.layout.specs.Layout.{blockRow, laidSymbol, blockOf}
 use Rattle.layout.proofs.Places.{bijection}
-use Rattle.layout.proofs.Packed.{length-packed, symbol-packed}
+use Rattle.packing.proofs.Packed.{length-packed, symbol-packed}
 use Rattle.layout.proofs.Headers.{header-length, behind-header, header-count, is-header}
 
 -- rows that can be laid: each has 64 symbols, and a symbol is below 16

@@ -7,7 +7,7 @@ use Prim.Native.Nat.{ℕ, _+_, _*_, _/_, _%_}
 use lib.Dec.{leb, eqb}
 use lib.ListN.{length, getD, drop}
 use Rattle.lists.specs.Tables.{tab}
-use Rattle.layout.specs.Packing.{symbolIn, packed}
+use Rattle.packing.specs.Packing.{symbolIn, packed}
 
 -- the tape code: q = 4, u = 45, n = 64, k = 40
 abbrev pub tapeQ : ℕ

@@ -1,5 +1,4 @@
 pub mod Same
 pub mod Tape
 pub mod Outcomes
-pub mod Encoded
-pub mod CodeRow
+pub mod AsLaid

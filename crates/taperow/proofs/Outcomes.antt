@@ -17,12 +17,12 @@ use Rattle.judging.specs.Judging.{countOf}
 use Rattle.decoder.specs.Decoding.{judgement, decoded, ifAccepted}
 use Rattle.voting.specs.Voting.{voted}
 use Rattle.decoder.proofs.Decoded.{the-type}
-use Rattle.layout.specs.Packing.{unpacked}
+use Rattle.packing.specs.Packing.{unpacked}
 use Rattle.layout.specs.Layout.{tapeQ, tapeU, messageLength, blockRow}
 use Rattle.lists.specs.Same.{sameList}
 use Rattle.taperow.specs.Reading.{outcome, rowRecord, judgedRecord}
 use Rattle.layout.proofs.Reading.{message-part}
-use Rattle.taperow.proofs.Tape.{reach-is}
+use Rattle.laying.proofs.TapeCode.{reach-is}
 
 -- an acceptance has the true count, which is within reach
 pub record Within (message row : List ℕ) (count : ℕ) : Type 0 where

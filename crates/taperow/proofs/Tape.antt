@@ -1,17 +1,13 @@
--- The tape code's numbers, and decoding with it: the call's checks pass, so that its answer is the row's own.
+-- Decoding a row of the tape: the call's checks pass, so that its answer is the row's own.
 -- Assumes nothing.
 use mathlib.Core.Path.{_≡_, refl, sym, ap, _∙_}
-use mathlib.Core.Bool.{true, false}
+use mathlib.Core.Bool.{false}
 use mathlib.Core.List.{List, append-nil}
 use Prim.Native.Nat.{ℕ, _≤_}
 use native.Mathlib.Omega.{arith}
 use lib.ListN.{length, drop-of-length-le}
-use Rattle.algebra.specs.Weights.{gap, nongap}
-use Rattle.lists.specs.Tables.{from, tab, keep}
 use Rattle.refusals.proofs.Checks.{Passes, passed}
-use Rattle.symbols.specs.Rule.{isKnown, Known, anyBeyond}
-use Rattle.symbols.proofs.Bytes.{test-known}
-use Rattle.curve.specs.Codes.{pointCount, isCode, nongaps, dimension, distance, reach}
+use Rattle.symbols.specs.Rule.{anyBeyond}
 use Rattle.published.specs.Start.{width}
 use Rattle.published.specs.Picture.{areaSize}
 use Rattle.decoder.specs.declared.Decoded.{Decoded}
@@ -20,39 +16,12 @@ use Rattle.voting.specs.Voting.{voted, cleared}
 use Rattle.decoder.specs.Decoding.{decoded, decodeChecks, decodeAnswer, decodeWork, ifAccepted, decodeMessage}
 use Rattle.decoder.proofs.DecodeChecks.{passes as no-check}
 use Rattle.layout.specs.Layout.{tapeQ, tapeU}
+use Rattle.laying.proofs.TapeCode.{points-are, dimension-is, known-tape, a-code}
 
 -- the work area for the tape code
 pub area-is : areaSize tapeQ ≡ 1472
 unfolding areaSize width
 area-is = refl
-
--- the tape code's n
-pub points-are : pointCount tapeQ ≡ 64
-unfolding pointCount
-points-are = refl
-
--- the tape code's k
-pub dimension-is : dimension tapeQ tapeU ≡ 40
-unfolding dimension nongaps keep tab from nongap gap
-dimension-is = refl
-
--- the tape code's reach
-pub reach-is : reach tapeQ tapeU ≡ 9
-unfolding reach distance pointCount
-reach-is = refl
-
--- q = 4 is known
-known : isKnown tapeQ ≡ true
-unfolding isKnown
-known = refl
-
-pub known-tape : Known tapeQ
-known-tape = test-known tapeQ known
-
--- u = 45 is a code's
-pub a-code : isCode tapeQ tapeU ≡ true
-unfolding isCode pointCount nongap gap
-a-code = refl
 
 -- a row of 64 symbols with room for all that is written
 module _ (row work message corrected : List ℕ) (full : length row ≡ 64) (symbols : anyBeyond tapeQ row ≡ false)

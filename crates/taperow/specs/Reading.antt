@@ -9,7 +9,7 @@ use Rattle.decoder.specs.declared.Decoded.{Decoded}
 use Rattle.decoder.specs.declared.Decoded.the-variants.{Accepted, Refused}
 use Rattle.voting.specs.Voting.{voted}
 use Rattle.decoder.specs.Decoding.{decoded}
-use Rattle.layout.specs.Packing.{unpacked}
+use Rattle.packing.specs.Packing.{unpacked}
 use Rattle.layout.specs.Layout.{tapeQ, tapeU, messageLength, blockRow, payloadRow}
 use Rattle.taperow.specs.declared.Record.{Record}
 

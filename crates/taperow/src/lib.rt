@@ -1,8 +1,6 @@
-// One row of a block: it is read and what came of it recorded, or its message is encoded and laid into the row's bytes.
-mod laying; // laying.rt: a message straight into its row's bytes
+// One row of a block is read, and what came of it recorded.
 mod reading; // reading.rt: the record of a row
 
-pub use laying::lay_row;
 pub use reading::row_record;
 
 // The states of a row.

@@ -8,7 +8,7 @@ ghost use Rattle.symbols.specs.Rule.{anyBeyond};
 ghost use Rattle.published.specs.Picture.{areaSize};
 ghost use Rattle.voting.specs.Voting.{voted, cleared};
 ghost use Rattle.decoder.specs.Decoding.{decoded, ifAccepted};
-ghost use Rattle.layout.specs.Packing.{unpacked};
+ghost use Rattle.packing.specs.Packing.{unpacked};
 ghost use Rattle.layout.specs.Layout.{tapeQ, tapeU, messageLength, blockRow};
 ghost use Rattle.lists.specs.Same.{sameList};
 ghost use Rattle.taperow.specs.Reading.{rowRecord, judgedRecord};
@@ -17,7 +17,7 @@ use crate::OTHER_MESSAGE;
 use crate::Record;
 use crate::UNREADABLE;
 use decoder::Decoded;
-use layout::unpack;
+use packing::unpack;
 
 // The symbols of row r of a block, gathered from where they stand: byte 8 + 32r on.
 fn gather_row(block: &[u8], r: usize, symbols: &mut [u8])

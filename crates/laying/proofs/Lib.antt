@@ -1,0 +1,3 @@
+pub mod TapeCode
+pub mod Encoded
+pub mod CodeRow
