@@ -67,15 +67,22 @@ pub fn of_verifying(answer: Verified) -> i64
     }
 }
 
-// The total or the row; what was there before a refusal.
-pub fn place_of(answer: Verified, before: u64) -> u64
-    ensures { λ r. ⌜ r ≡ verifyAt answer before ⌝ }
+// Puts the total or the row into a place. After a refusal nothing is stored there, not even what it held: another thread may
+// have written to it meanwhile.
+pub fn put_place(answer: Verified, at: &mut u64)
+    ensures { λ _. ⌜ now (at .exit) ≡ verifyAt answer (now (at .entry)) ⌝ }
 {
     match answer {
-        Verified::Copied(total) => total as u64,
-        Verified::Differs(row) => row as u64,
-        Verified::Unreadable(row) => row as u64,
-        Verified::Refused(_) => before,
+        Verified::Copied(total) => {
+            *at = total as u64;
+        }
+        Verified::Differs(row) => {
+            *at = row as u64;
+        }
+        Verified::Unreadable(row) => {
+            *at = row as u64;
+        }
+        Verified::Refused(_) => {}
     }
 }
 

@@ -88,6 +88,6 @@ pub extern "C" fn tape_verify(
     ensures work { λ _. ⌜ now (work .exit) ≡ verifyBytesWork (now (block .entry)) (now (payload .entry)) (now (records .entry)) (now (work .entry)) ⌝ }
 {
     let answer = verify_bytes(block, payload, records, work);
-    *at = results::place_of(answer, *at);
+    results::put_place(answer, at);
     results::of_verifying(answer)
 }
