@@ -9,6 +9,8 @@ ghost use Rattle.results.specs.Results.{
   verifyResult,
   verifyAt,
   writeResult,
+  wasAccepted,
+  rowPassed,
   CountFits,
   LengthFits,
 };
@@ -94,4 +96,18 @@ pub fn of_writing(answer: Written) -> i64
         Written::Length(bytes) => bytes as i64,
         Written::Refused(why) => of_refusal(why),
     }
+}
+
+// Whether an integer that decoding answered tells an acceptance.
+pub fn was_accepted(decoded: i64) -> bool
+    ensures { λ r. ⌜ r ≡ wasAccepted decoded ⌝ }
+{
+    decoded >= 0
+}
+
+// Which row is passed on, as a number.
+pub fn row_passed(accepted: bool) -> u64
+    ensures { λ r. ⌜ r ≡ rowPassed accepted ⌝ }
+{
+    if accepted { 1 } else { 0 }
 }
