@@ -87,6 +87,12 @@ enum tape_state {
     TAPE_ROW_UNREADABLE = 2  /* more places differ than the reach; the count is then 0 */
 };
 
+/* The row that tape_pass_on tells. */
+enum tape_passed {
+    TAPE_PASS_RECEIVED = 0,
+    TAPE_PASS_CORRECTED = 1
+};
+
 /*
  * Writes the row of a message: at each (x, y) the sum over the message's symbols of the symbol times its monomial there.
  * message_len is exactly k, row_len at least n.
@@ -114,6 +120,15 @@ int64_t tape_stop(uint64_t q, uint64_t u, uint64_t steps, const uint8_t *row, si
  */
 int64_t tape_decode(uint64_t q, uint64_t u, const uint8_t *row, size_t row_len, uint8_t *work, size_t work_len,
                     uint8_t *message, size_t message_len, uint8_t *corrected, size_t corrected_len);
+
+/*
+ * Tells which row goes on from here after a decoding, and how much of it. decoded is what tape_decode answered, and is taken
+ * as said: a count means the corrected row, a negative number the received one, and *from becomes TAPE_PASS_CORRECTED or
+ * TAPE_PASS_RECEIVED. What goes on are the first symbols of that area, where they stand; nothing is copied.
+ * Answers how many they are: n, or 0 where q is not 2 or 4 or that area is shorter than n. Refuses nothing.
+ */
+int64_t tape_pass_on(uint64_t q, int64_t decoded, const uint8_t *received, size_t received_len, const uint8_t *corrected,
+                     size_t corrected_len, uint64_t *from);
 
 /*
  * Writes the block of a payload: the header, then for each TAPE_PAYLOAD_BYTES of the payload the packed row of their message.

@@ -20,6 +20,14 @@ int64_t decode_and_encode_again(struct lent *lent, uint8_t corrected[TAPE_N])
     return tape_encode(TAPE_Q, TAPE_U, lent->message, TAPE_K, lent->row, TAPE_N);
 }
 
+const uint8_t *row_passed_on(const struct lent *lent, const uint8_t corrected[TAPE_N], int64_t decoded);
+const uint8_t *row_passed_on(const struct lent *lent, const uint8_t corrected[TAPE_N], int64_t decoded)
+{
+    uint64_t from = TAPE_PASS_RECEIVED;
+    int64_t length = tape_pass_on(TAPE_Q, decoded, lent->row, TAPE_N, corrected, TAPE_N, &from);
+    return length == TAPE_N && from == TAPE_PASS_CORRECTED ? corrected : lent->row;
+}
+
 int64_t write_one_row(struct lent *lent, const uint8_t payload[TAPE_PAYLOAD_BYTES]);
 int64_t write_one_row(struct lent *lent, const uint8_t payload[TAPE_PAYLOAD_BYTES])
 {

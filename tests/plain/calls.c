@@ -91,6 +91,16 @@ int64_t tape_decode(uint64_t q, uint64_t u, const uint8_t *row, size_t row_len, 
     return decode_row(&code, row, work, message, corrected);
 }
 
+int64_t tape_pass_on(uint64_t q, int64_t decoded, const uint8_t *received, size_t received_len, const uint8_t *corrected,
+                     size_t corrected_len, uint64_t *from)
+{
+    size_t n = q == 2 ? TAPE_ROW_Q2 : q == 4 ? TAPE_ROW_Q4 : 0;
+    size_t length = decoded >= 0 ? corrected_len : received_len;
+    (void)received, (void)corrected;
+    *from = decoded >= 0 ? TAPE_PASS_CORRECTED : TAPE_PASS_RECEIVED;
+    return length < n ? 0 : (int64_t)n;
+}
+
 /* The rows of a block, or 0 if it is not as document 01 says. */
 static size_t rows_of(const uint8_t *block, size_t block_len)
 {

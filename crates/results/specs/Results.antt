@@ -1,7 +1,9 @@
 -- What each call answers to a caller in C: one integer, and for verifying a number beside it. include/orbitspinet.h says the
 -- same in words. Assumes nothing.
 use Prim.Native.Nat.{ℕ, _<_, _^_}
+use mathlib.Core.Bool.{Bool, cond}
 use lib.IntN.{ℤ, pos, negℤ}
+use lib.Signed.{leZ}
 use Rattle.refusals.specs.declared.Refusal.{Refusal}
 use Rattle.refusals.specs.Numbers.{refusalNumber}
 use Rattle.encoder.specs.declared.Encoded.{Encoded}
@@ -51,6 +53,14 @@ verifyAt (Rejected why) old = old
 abbrev pub writeResult : Written → ℤ
 writeResult (Length bytes) = pos bytes
 writeResult (Unwritten why) = refusalResult why
+
+-- an integer that decoding answered is an acceptance where it is not negative
+abbrev pub wasAccepted : ℤ → Bool
+wasAccepted decoded = leZ (pos 0) decoded
+
+-- the row that is passed on: 1 the corrected one, 0 the received one
+abbrev pub rowPassed : Bool → ℕ
+rowPassed accepted = cond accepted 1 0
 
 -- the count of an acceptance is a number that the integer can hold
 abbrev pub CountFits : Decoded → Type 0

@@ -9,6 +9,8 @@ ghost use Rattle.results.specs.Results.{
   verifyResult,
   verifyAt,
   writeResult,
+  wasAccepted,
+  rowPassed,
   CountFits,
   LengthFits,
 };
@@ -67,15 +69,22 @@ pub fn of_verifying(answer: Verified) -> i64
     }
 }
 
-// The total or the row; what was there before a refusal.
-pub fn place_of(answer: Verified, before: u64) -> u64
-    ensures { λ r. ⌜ r ≡ verifyAt answer before ⌝ }
+// Puts the total or the row into a place. After a refusal nothing is stored there, not even what it held: another thread may
+// have written to it meanwhile.
+pub fn put_place(answer: Verified, at: &mut u64)
+    ensures { λ _. ⌜ now (at .exit) ≡ verifyAt answer (now (at .entry)) ⌝ }
 {
     match answer {
-        Verified::Copied(total) => total as u64,
-        Verified::Differs(row) => row as u64,
-        Verified::Unreadable(row) => row as u64,
-        Verified::Refused(_) => before,
+        Verified::Copied(total) => {
+            *at = total as u64;
+        }
+        Verified::Differs(row) => {
+            *at = row as u64;
+        }
+        Verified::Unreadable(row) => {
+            *at = row as u64;
+        }
+        Verified::Refused(_) => {}
     }
 }
 
@@ -87,4 +96,18 @@ pub fn of_writing(answer: Written) -> i64
         Written::Length(bytes) => bytes as i64,
         Written::Refused(why) => of_refusal(why),
     }
+}
+
+// Whether an integer that decoding answered tells an acceptance.
+pub fn was_accepted(decoded: i64) -> bool
+    ensures { λ r. ⌜ r ≡ wasAccepted decoded ⌝ }
+{
+    decoded >= 0
+}
+
+// Which row is passed on, as a number.
+pub fn row_passed(accepted: bool) -> u64
+    ensures { λ r. ⌜ r ≡ rowPassed accepted ⌝ }
+{
+    if accepted { 1 } else { 0 }
 }

@@ -1,16 +1,20 @@
 // The layer's calls for programs in other languages, each over the proved call of its crate. include/orbitspinet.h declares them
 // for C and says their promises in words: a slice is passed as a pointer and a length, and every answer is one integer.
 ghost use mathlib.Core.Path.{_≡_};
+ghost use lib.IntN.{pos};
+ghost use lib.ListN.{length};
 ghost use Rattle.encoder.specs.Encoding.{encodeAnswer, encodeOutput};
 ghost use Rattle.steps.specs.Stop.{stopAnswer, stopWork, stopOutput};
 ghost use Rattle.decoder.specs.Decoding.{decodeAnswer, decodeWork, decodeMessage, decodeCorrected};
+ghost use Rattle.passing.specs.PassOn.{passedOn};
 ghost use Rattle.verifying.specs.AsBytes.{verifyBytesAnswer, verifyBytesRecords, verifyBytesWork};
 ghost use Rattle.block.specs.Writing.{writeAnswer, writeBlock};
-ghost use Rattle.results.specs.Results.{encodeResult, stopResult, decodeResult, verifyResult, verifyAt, writeResult};
+ghost use Rattle.results.specs.Results.{encodeResult, stopResult, decodeResult, verifyResult, verifyAt, writeResult, wasAccepted, rowPassed};
 use block::verify_bytes;
 use block::write;
 use decoder::decode;
 use encoder::encode;
+use passing::pass_on;
 use steps::stop;
 
 // Writes a message's row; 0, or minus a refusal's number.
@@ -61,6 +65,25 @@ pub extern "C" fn tape_decode(
     results::of_decoding(answer)
 }
 
+// Says which row is passed on after a decoding, in `from`, and how many of that row's first symbols are: a part of a lent row
+// does not cross to C as an answer.
+#[no_mangle]
+pub extern "C" fn tape_pass_on<'a>(
+    q: u64,
+    decoded: i64,
+    received: &'a [u8],
+    corrected: &'a [u8],
+    from: &mut u64,
+) -> i64
+    ensures result { λ r. ⌜ r ≡ pos (length (passedOn q (wasAccepted decoded) (now (received .entry)) (now (corrected .entry)))) ⌝ }
+    ensures from { λ _. ⌜ now (from .exit) ≡ rowPassed (wasAccepted decoded) ⌝ }
+{
+    let accepted = results::was_accepted(decoded);
+    *from = results::row_passed(accepted);
+    let part = pass_on(q as usize, accepted, received, corrected);
+    part.len() as i64
+}
+
 // Writes the block of a payload; its length in bytes, or minus a refusal's number.
 #[no_mangle]
 pub extern "C" fn tape_write(payload: &[u8], block: &mut [u8]) -> i64
@@ -88,6 +111,6 @@ pub extern "C" fn tape_verify(
     ensures work { λ _. ⌜ now (work .exit) ≡ verifyBytesWork (now (block .entry)) (now (payload .entry)) (now (records .entry)) (now (work .entry)) ⌝ }
 {
     let answer = verify_bytes(block, payload, records, work);
-    *at = results::place_of(answer, *at);
+    results::put_place(answer, at);
     results::of_verifying(answer)
 }

@@ -10,8 +10,8 @@ use Rattle.tape.proofs.tape_verify.Tie as tie
 verify-bytes-requires : tie.Need-verify-bytes-requires
 verify-bytes-requires c κs = search needs
 
-place-of-requires : tie.Need-place-of-requires
-place-of-requires c κs = search needs
+put-place-requires : tie.Need-put-place-requires
+put-place-requires c κs = search needs
 
 of-verifying-requires : tie.Need-of-verifying-requires
 of-verifying-requires c κs = search needs
@@ -29,7 +29,7 @@ returns c =
     let verified = at-call .verify-bytes .ensures in (
       returned (c .of-verifying .ok) ∙ c .of-verifying .ensures ∙ ap verifyResult (verified .0),
       (
-        c .before .place-of .ensures ∙ ap (λ (answer : Verified). verifyAt answer (at-start .args .at .now)) (verified .0),
+        c .before .put-place .ensures ∙ ap (λ (answer : Verified). verifyAt answer (at-start .args .at .now)) (verified .0),
         (verified .1 .0, verified .1 .1 .0),
       ),
     )
@@ -37,4 +37,4 @@ returns c =
 pub tape-verify-spec : {M : Type 1} → statement M
 tape-verify-spec =
     tie.close
-    (tie.spec verify-bytes-requires place-of-requires of-verifying-requires same-length same-length-2 returns)
+    (tie.spec verify-bytes-requires put-place-requires of-verifying-requires same-length same-length-2 returns)
