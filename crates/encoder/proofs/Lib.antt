@@ -1,6 +1,3 @@
-mod Horner
-mod Spreading
-mod Values
 mod RowNumbers
 mod Written
 mod EncodeChecks

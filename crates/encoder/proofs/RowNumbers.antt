@@ -33,8 +33,8 @@ use Rattle.curve.proofs.Arranged.{points-arranged}
 use Rattle.curve.proofs.MessageFunction.{function-in, function-out, function-value}
 use Rattle.curve.proofs.RowLaws.{count-is, row-tab}
 use Rattle.encoder.specs.Encoding.{rowNumbers}
-use Rattle.encoder.specs.Stages.{placed, IsSpread, HoldsFunction, fibreNumber}
-use Rattle.encoder.proofs.Spreading.{placed-in, placed-out}
+use Rattle.evaluation.specs.Stages.{placed, IsSpread, HoldsFunction, fibreNumber}
+use Rattle.evaluation.proofs.Spreading.{placed-in, placed-out}
 
 module _ {𝓢 : Symbols} {q : ℕ} (𝓛 : Laws 𝓢 q) where
   infixl 70 _⊗_

@@ -13,7 +13,7 @@ use Rattle.symbols.specs.Rule.{Known, symbols, symbol}
 use Rattle.symbols.proofs.Bytes.{known-positive, known-high, square-small}
 use Rattle.curve.specs.Codes.{pointCount}
 use Rattle.encoder.specs.Encoding.{rowNumbers}
-use Rattle.encoder.specs.Stages.{columnNumber, fibreNumber}
+use Rattle.evaluation.specs.Stages.{columnNumber, fibreNumber}
 use Rattle.symbols.specs.Tables.{Holds}
 use Rattle.encoder.proofs.RowNumbers.{rowNumber, function, stages, row-numbers}
 

@@ -1,2 +1,1 @@
 pub mod Encoding
-pub mod Stages

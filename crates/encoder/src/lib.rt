@@ -1,89 +1,23 @@
 // A message becomes its row. Each symbol of the row is the value of the message's function at a point, and the points above one
 // x share the values there of the polynomials in x that stand at the powers of y.
 use curve::Code;
-use curve::Monomial;
 use curve::Named;
+use evaluation::column;
+use evaluation::fill_fibre;
+use evaluation::spread;
 use refusals::Refusal;
 ghost use mathlib.Core.Path.{_≡_};
 ghost use mathlib.Core.List.{_++_};
-ghost use Prim.Native.Nat.{_+_, _*_, _<_, _≤_};
+ghost use Prim.Native.Nat.{_≤_};
 ghost use lib.ListN.{length, drop};
-ghost use Rattle.symbols.specs.Rule.{Known};
-ghost use Rattle.symbols.specs.Tables.{HasProducts};
-ghost use Rattle.curve.specs.Codes.{pointCount, dimension};
+ghost use Rattle.curve.specs.Codes.{pointCount};
 ghost use Rattle.curve.specs.Given.{Valid, Message};
-ghost use Rattle.encoder.specs.Stages.{IsValue, IsSpread, IsColumn, IsFibre};
 ghost use Rattle.encoder.specs.Encoding.{rowNumbers, encodeAnswer, encodeOutput};
 
 // What encoding answers.
 pub enum Encoded {
     Done,
     Refused(Refusal),
-}
-
-// Horner's rule: the value of the polynomial with these coefficients at the symbol whose products these are.
-fn value_in(q: usize, products: &[u8; 16], coefficients: &[u8]) -> u8
-    requires { ⌜ 0 < length (now coefficients) ⌝ }
-    ensures { λ r. ⌜ IsValue q (now (products .entry)) (now (coefficients .entry)) r ⌝ }
-{
-    let mut i = coefficients.len() - 1;
-    let mut value = coefficients[i];
-    while 0 < i {
-        i -= 1;
-        value = symbols::sum(q, products[(value % 16) as usize], coefficients[i]);
-    }
-    value
-}
-
-// The message's symbols in the places of their monomials: sixteen places for each power of y.
-fn spread(q: usize, u: usize, message: &[u8]) -> [u8; 64]
-    requires { ⌜ Known q × (u < pointCount q) × (length (now message) ≡ dimension q u) ⌝ }
-    ensures { λ r. ⌜ IsSpread q (u + 1) (now (message .entry)) r ⌝ }
-{
-    let mut places = [0u8; 64];
-    let mut taken = 0;
-    let mut s = 0;
-    while s <= u {
-        let monomial = curve::monomial_of(q, s);
-        s += 1;
-        if let Monomial::Powers { x, y } = monomial {
-            places[y * 16 + x] = message[taken];
-            taken += 1;
-        }
-    }
-    places
-}
-
-// The values at x of the polynomials in x that stand at the powers of y.
-fn column(table: &[u8], q: usize, x: u8, places: &[u8], width: usize) -> [u8; 4]
-    requires { ⌜ Known q × (0 < width) × (width ≤ 16) × (length (now places) ≡ 64) × HasProducts q (now table) ⌝ }
-    ensures { λ r. ⌜ IsColumn q width x (now (places .entry)) r ⌝ }
-{
-    let products = symbols::products_in(table, q, x);
-    let mut values = [0u8; 4];
-    let mut j = 0;
-    while j < q {
-        let start = j * 16;
-        let end = start + width;
-        values[j] = value_in(q, &products, &places[start..end]);
-        j += 1;
-    }
-    values
-}
-
-// The symbols of the row at the points above x, from the values there.
-fn fill_fibre(table: &[u8], q: usize, x: usize, values: &[u8], row: &mut [u8])
-    requires { ⌜ Known q × (x < q * q) × (length (now values) ≡ 4) × (pointCount q ≤ length (now row)) × HasProducts q (now table) ⌝ }
-    ensures { λ r. ⌜ IsFibre q x (now (values .entry)) (now (row .entry)) (now (row .exit)) ⌝ }
-{
-    let ordinates = curve::ordinates(q, symbols::products_in(table, q, x as u8));
-    let start = x * q;
-    let mut b = 0;
-    while b < q {
-        let products = symbols::products_in(table, q, ordinates[b]);
-        row[start + b] = value_in(q, &products, &values[..q]);
-        b += 1;
-    }
 }
 
 // The row of a message, written to the first n places. A row of the tape code takes 976 products: at each of the 16 x eleven

@@ -6,59 +6,15 @@
 use libc::STDIN_FILENO;
 use libc::STDOUT_FILENO;
 use steps::Stopped;
-
-// What stands in the areas before a call, and what is read where no digit is: no symbol.
-const UNTOUCHED: u8 = 255;
+use vectors::UNTOUCHED;
+use vectors::read_number;
+use vectors::read_symbols;
+use vectors::spell_symbols;
+ghost use Prim.Native.Nat.{_<_};
+ghost use lib.ListN.{length};
 
 // Where the row starts in a case, after numbers of fixed widths.
 const ROW_START: usize = 16;
-
-// The number of a digit. Letters beyond f are the numbers from 16 on, which are no symbols.
-fn number_of_digit(digit: u8) -> u8 {
-    match digit {
-        b'0'..=b'9' => digit - b'0',
-        b'a'..=b'z' => digit - b'a' + 10,
-        _ => UNTOUCHED,
-    }
-}
-
-// The digit of a symbol, and a dot for what is none.
-fn digit_of_symbol(symbol: u8) -> u8 {
-    match symbol {
-        0..=9 => b'0' + symbol,
-        10..=15 => b'a' + (symbol - 10),
-        _ => b'.',
-    }
-}
-
-// Digits into their numbers, where they stand.
-fn read_symbols(text: &mut [u8]) {
-    let mut i = 0;
-    while i < text.len() {
-        text[i] = number_of_digit(text[i]);
-        i += 1;
-    }
-}
-
-// Symbols into their digits, where they stand.
-fn spell_symbols(area: &mut [u8]) {
-    let mut i = 0;
-    while i < area.len() {
-        area[i] = digit_of_symbol(area[i]);
-        i += 1;
-    }
-}
-
-// A decimal number of at most four digits.
-fn read_number(text: &[u8]) -> usize {
-    let mut number = 0;
-    let mut i = 0;
-    while i < text.len() {
-        number = number % 1000 * 10 + number_of_digit(text[i]) as usize;
-        i += 1;
-    }
-    number
-}
 
 // The answer as a word, with a number for a refusal.
 fn tell(answer: Stopped) {
@@ -85,19 +41,17 @@ fn run_case(q: usize, u: usize, count: usize, row: &[u8], work: &mut [u8], outpu
     io::write_all(STDOUT_FILENO, b"\n");
 }
 
-// Repeats the numbers of a case and runs it. A case with longer areas than there are is left out.
-fn run_line(line: &mut [u8]) {
-    let mut work = [UNTOUCHED; 1480];
-    let mut output = [UNTOUCHED; 64];
-    if line.len() <= ROW_START {
-        return;
-    }
-    let end = line.len() - 1;
-    let q = read_number(&line[0..1]);
-    let u = read_number(&line[2..4]);
-    let count = read_number(&line[5..7]);
-    let work_length = read_number(&line[8..12]);
-    let output_length = read_number(&line[13..15]);
+// Runs a case with areas of these lengths. A case with longer areas than there are is left out.
+fn run_lent(
+    q: usize,
+    u: usize,
+    count: usize,
+    work_length: usize,
+    output_length: usize,
+    line: &mut [u8],
+)
+    requires { ⌜ 16 < length (now line) ⌝ }
+{
     if 1480 < work_length {
         return;
     }
@@ -105,7 +59,10 @@ fn run_line(line: &mut [u8]) {
         return;
     }
     io::write_all(STDOUT_FILENO, &line[0..ROW_START]);
+    let end = line.len() - 1;
     read_symbols(&mut line[ROW_START..end]);
+    let mut work = [UNTOUCHED; 1480];
+    let mut output = [UNTOUCHED; 64];
     run_case(
         q,
         u,
@@ -114,6 +71,19 @@ fn run_line(line: &mut [u8]) {
         &mut work[..work_length],
         &mut output[..output_length],
     );
+}
+
+// Repeats the numbers of a case and runs it.
+fn run_line(line: &mut [u8]) {
+    if line.len() <= ROW_START {
+        return;
+    }
+    let q = read_number(&line[0..1]);
+    let u = read_number(&line[2..4]);
+    let count = read_number(&line[5..7]);
+    let work_length = read_number(&line[8..12]);
+    let output_length = read_number(&line[13..15]);
+    run_lent(q, u, count, work_length, output_length, line);
 }
 
 // All cases of a text, one to a line.

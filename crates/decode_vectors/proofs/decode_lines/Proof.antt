@@ -1,15 +1,16 @@
--- `decode_vectors::decode_lines` meets its contract. The loop's invariant: `at` is within the text. Assumes nothing.
-use Prim.Native.Nat.{_≤_, _-_}
+-- `decode_vectors::decode_lines` is safe and ends. Assumes nothing.
+use mathlib.Core.Path.{_≡_}
+use Prim.Native.Nat.{_-_, _≤_}
 use lib.ListN.{length}
 use borrow.Author.Needs.{needs}
 use Rattle.decode_vectors.proofs.decode_lines.Statement.{statement}
 use Rattle.decode_vectors.proofs.decode_lines.Tie as tie
 
 abbrev Inv-loop : tie.InvT-loop
-Inv-loop text at₀ at = at ≤ length text
+Inv-loop text₀ at₀ text at = (at ≤ length text₀) × (length text ≡ length text₀)
 
 abbrev μ-loop : tie.MeasureT-loop
-μ-loop text at₀ at = length text - at
+μ-loop text₀ at₀ text at = length text₀ - at
 
 loop-holds : tie.Need-loop-holds Inv-loop μ-loop
 loop-holds c = search needs
@@ -35,6 +36,9 @@ loop-less c = search needs
 loop-again : tie.Need-loop-again Inv-loop μ-loop
 loop-again c = search needs
 
+same-length : tie.Need-same-length Inv-loop μ-loop
+same-length c = search needs
+
 returns : tie.Need-returns Inv-loop μ-loop
 returns c = search needs
 
@@ -52,4 +56,5 @@ decode-lines-spec =
     decode-line-requires
     loop-less
     loop-again
+    same-length
     returns)

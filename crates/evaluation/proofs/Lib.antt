@@ -1,0 +1,3 @@
+mod Horner
+pub mod Spreading
+mod Values
