@@ -25,7 +25,11 @@ impl Drop for Harness {
 impl Harness {
     /// Starts a program by the words that start programs here.
     pub fn start(words: &[String], program: &str) -> Result<Harness> {
-        let all: Vec<&str> = words.iter().map(|word| &word[..]).chain([program]).collect();
+        let all: Vec<&str> = words
+            .iter()
+            .map(|word| &word[..])
+            .chain([program])
+            .collect();
         let mut child = Command::new(all[0])
             .args(&all[1..])
             .stdin(Stdio::piped())

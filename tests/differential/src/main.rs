@@ -66,7 +66,8 @@ fn main() -> ExitCode {
         .collect();
     println!("seed {}", asked.seed);
     let ended_well = if run_all(&asked, &programs) {
-        programs[1..].iter().filter(|program| !program.was_told()).count() == 0
+        let told = programs[1..].iter().map(Program::was_told);
+        told.fold(true, |all, one| all & one)
     } else {
         programs[0].print_found();
         false

@@ -26,7 +26,8 @@ impl Program {
     /// Where many programs are held against the reference, each has one harness only, and one with a
     /// mistake in it is given up at its first difference.
     pub fn start(words: &[String], path: &str, is_right: bool, many: bool) -> Program {
-        let start = |_| Mutex::new(Harness::start(words, path).expect("the harness can be started"));
+        let start =
+            |_| Mutex::new(Harness::start(words, path).expect("the harness can be started"));
         Program {
             path: path.to_string(),
             harnesses: (0..if many { 1 } else { THREADS }).map(start).collect(),

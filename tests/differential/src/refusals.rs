@@ -115,9 +115,6 @@ pub fn row_call(index: usize, random: &mut Random) -> Case {
             };
             Case::of(Call::Stop { q, u, steps }, vec![symbols, work, message])
         }
-        _ => Case::of(
-            Call::Decode { q, u },
-            vec![symbols, work, message, row],
-        ),
+        _ => Case::of(Call::Decode { q, u }, vec![symbols, work, message, row]),
     }
 }

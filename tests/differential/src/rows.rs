@@ -18,10 +18,7 @@ fn numbers(code: &Code) -> (u64, u64) {
 
 pub fn encode_case(code: &Code, message: Vec<u8>, random: &mut Random) -> Case {
     let (q, u) = numbers(code);
-    Case::of(
-        Call::Encode { q, u },
-        vec![message, lent(code.n(), random)],
-    )
+    Case::of(Call::Encode { q, u }, vec![message, lent(code.n(), random)])
 }
 
 pub fn stop_case(code: &Code, steps: usize, row: Vec<u8>, random: &mut Random) -> Case {
@@ -38,10 +35,7 @@ pub fn decode_case(code: &Code, row: Vec<u8>, random: &mut Random) -> Case {
     let (q, u) = numbers(code);
     let work = lent(picture_size(code.q()), random);
     let (message, corrected) = (lent(code.k(), random), lent(code.n(), random));
-    Case::of(
-        Call::Decode { q, u },
-        vec![row, work, message, corrected],
-    )
+    Case::of(Call::Decode { q, u }, vec![row, work, message, corrected])
 }
 
 /// The row of a random message with this many places changed.

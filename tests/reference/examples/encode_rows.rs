@@ -12,7 +12,9 @@ fn main() {
     let mut random = Random::seeded(45);
     let messages: Vec<Vec<u8>> = (0..3).map(|_| random.message(&code)).collect();
     match std::env::args().nth(1).as_deref() {
-        Some("messages") => messages.iter().for_each(|message| println!("{}", text(message))),
+        Some("messages") => messages
+            .iter()
+            .for_each(|message| println!("{}", text(message))),
         Some("answers") => {
             // Document 01's entries, with so many zeros as messages of these codes have.
             for (u, k) in [(4, 2), (63, 58), (0, 0), (3, 0), (11, 0), (64, 0)] {
@@ -26,7 +28,10 @@ fn main() {
 
 /// A message as a byte string of the program.
 fn text(message: &[u8]) -> String {
-    let bytes: String = message.iter().map(|byte| format!("\\x{byte:02x}")).collect();
+    let bytes: String = message
+        .iter()
+        .map(|byte| format!("\\x{byte:02x}"))
+        .collect();
     format!("b\"{bytes}\"")
 }
 
