@@ -150,7 +150,7 @@ int64_t tape_write(const uint8_t *payload, size_t payload_len, uint8_t *block, s
  * then how many of its places differ. The first TAPE_WORK_Q4 bytes of the work area end zero.
  * Answers TAPE_COPIED where every row is equal, with the sum of the counts in *at. Else answers for the first row that is
  * not, whose number (from 0) is in *at: TAPE_DIFFERS or TAPE_UNREADABLE by its state.
- * Refuses with 9, 10, 11, 6, checked in this order; *at then stays as it was. records_len is in bytes.
+ * Refuses with 9, 10, 11, 6, checked in this order; nothing is then stored to *at. records_len is in bytes.
  */
 int64_t tape_verify(const uint8_t *block, size_t block_len, const uint8_t *payload, size_t payload_len,
                     uint8_t *records, size_t records_len, uint8_t *work, size_t work_len, uint64_t *at);

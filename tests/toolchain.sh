@@ -3,6 +3,7 @@
 root=$(cd "$(dirname "${BASH_SOURCE[0]}")/.." && pwd)
 tests=$root/tests
 built=$root/target/tests
+archive=$root/target/staticlib/libtape.a
 kit=$(dirname "$(dirname "$(readlink -f "$(command -v rt)")")")
 tools=$kit/on/$(uname -m)/toolchain
 

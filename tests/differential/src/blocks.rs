@@ -23,24 +23,29 @@ fn damage_row(block: &mut [u8], r: usize, places: usize, random: &mut Random) {
     bytes.copy_from_slice(&pack(&symbols));
 }
 
+/// Damages a row in so many places that it can still be read; how many they are.
+pub fn damage_within_reach(block: &mut [u8], r: usize, random: &mut Random) -> u8 {
+    let places = random.below(tape().reach() + 1);
+    damage_row(block, r, places, random);
+    places as u8
+}
+
 /// A case over whole areas of random earlier contents.
 fn verify_case(block: Vec<u8>, payload: Vec<u8>, rows: usize, random: &mut Random) -> Case {
     let records = 2 * rows + random.below(6);
     let work = picture_size(4) + random.below(6);
-    Case {
-        call: Call::Verify { at: random.next() },
-        areas: vec![block, payload, random.bytes(records), random.bytes(work)],
-    }
+    let call = Call::Verify { at: random.next() };
+    let areas = vec![block, payload, random.bytes(records), random.bytes(work)];
+    Case::of(call, areas)
 }
 
 /// What may befall a row so that it is not equal: damage beyond reach, other bytes, or another
 /// payload with the row damaged too.
 fn spoil_row(block: &mut [u8], payload: &mut [u8], r: usize, random: &mut Random) {
-    let reach = tape().reach();
     match random.below(3) {
         0 => {
             let beyond = 1 + random.below(2);
-            damage_row(block, r, reach + beyond, random);
+            damage_row(block, r, tape().reach() + beyond, random);
         }
         1 => {
             let bytes = random.bytes(ROW_BYTES);
@@ -48,8 +53,7 @@ fn spoil_row(block: &mut [u8], payload: &mut [u8], r: usize, random: &mut Random
         }
         _ => {
             payload[PAYLOAD_BYTES * r + random.below(PAYLOAD_BYTES)] ^= 1 << random.below(8);
-            let places = random.below(reach + 1);
-            damage_row(block, r, places, random);
+            damage_within_reach(block, r, random);
         }
     }
 }
@@ -69,8 +73,7 @@ pub fn damaged_block(rows: usize, random: &mut Random) -> Case {
         if spoil {
             spoil_row(&mut block, &mut payload, r, random);
         } else if random.below(2) == 0 {
-            let places = random.below(tape().reach() + 1);
-            damage_row(&mut block, r, places, random);
+            damage_within_reach(&mut block, r, random);
         }
     }
     verify_case(block, payload, rows, random)
@@ -107,10 +110,8 @@ pub fn refused_block(index: usize, random: &mut Random) -> Case {
     }
     let records = area(2 * rows, wrong(2), random);
     let work = area(picture_size(4), wrong(3), random);
-    Case {
-        call: Call::Verify { at: random.next() },
-        areas: vec![block, payload, records, work],
-    }
+    let call = Call::Verify { at: random.next() };
+    Case::of(call, vec![block, payload, records, work])
 }
 
 /// Random bytes; some begin as a block of their length would, so that the rows are read.

@@ -2,7 +2,7 @@
 
 use crate::case::{Call, Case, Outcome};
 use reference::block::{verify, write, Record, Verdict};
-use reference::calls::{decode, encode, stop};
+use reference::calls::{decode, encode, pass_on, stop};
 
 /// The answer of a call that tells only that it is done.
 fn done_or_refused(answer: Result<(), u8>) -> i64 {
@@ -20,10 +20,24 @@ fn number_or_refused(answer: Result<u64, u8>) -> i64 {
     }
 }
 
-/// Runs the reference on a copy of the areas.
+/// Runs the reference on a copy of the areas. An area that must be exactly so long and is told to be
+/// far longer is one byte too long for the reference, which has no such area: every length but the
+/// right one is refused alike. One that must be at least so long is long enough as it is.
 pub fn expected(case: &Case) -> Outcome {
     let mut areas = case.areas.clone();
-    let (result, at) = match (&case.call, &mut areas[..]) {
+    let longer = case.told.filter(|&(area, _)| case.call.areas()[area].1);
+    if let Some((area, _)) = longer {
+        areas[area].push(0);
+    }
+    let mut outcome = run(&case.call, areas);
+    if let Some((area, _)) = longer {
+        outcome.areas[area].pop();
+    }
+    outcome
+}
+
+fn run(call: &Call, mut areas: Vec<Vec<u8>>) -> Outcome {
+    let (result, place) = match (call, &mut areas[..]) {
         (&Call::Encode { q, u }, [message, row]) => {
             (done_or_refused(encode(q, u, message, row)), None)
         }
@@ -36,15 +50,32 @@ pub fn expected(case: &Case) -> Outcome {
         }
         (&Call::Verify { at }, [block, payload, records, work]) => {
             let (result, at) = verified(block, payload, records, work, at);
-            (result, Some(at))
+            (result, Some((0, at)))
         }
         (Call::Write, [payload, block]) => {
             let answer = write(payload, block).map(|length| length as u64);
             (number_or_refused(answer), None)
         }
+        (&Call::PassOn { q, decoded, .. }, [received, corrected]) => {
+            let (length, from) = passed_on(q, decoded, received, corrected);
+            (length, Some((2, from)))
+        }
         (call, areas) => panic!("{:?} does not take {} areas", call, areas.len()),
     };
-    Outcome { result, at, areas }
+    Outcome {
+        result,
+        place,
+        areas,
+    }
+}
+
+/// How long the part is, and the number of the row that it starts with: an empty part starts there too.
+fn passed_on(q: u64, decoded: i64, received: &[u8], corrected: &[u8]) -> (i64, u64) {
+    let accepted = decoded >= 0;
+    let part = pass_on(q, accepted, received, corrected);
+    let row = if accepted { corrected } else { received };
+    assert!(part.is_empty() || part.as_ptr() == row.as_ptr());
+    (part.len() as i64, accepted.into())
 }
 
 /// A record is two bytes, state and count; a last odd byte belongs to no record.

@@ -25,7 +25,7 @@ pub fn one_of<T: Copy>(list: &[T], random: &mut Random) -> T {
 }
 
 /// Near numbers are as likely as large ones.
-fn near_or_large(near: &[u64], random: &mut Random) -> u64 {
+pub fn near_or_large(near: &[u64], random: &mut Random) -> u64 {
     if random.below(2) == 0 {
         one_of(near, random)
     } else {
@@ -107,23 +107,14 @@ pub fn row_call(index: usize, random: &mut Random) -> Case {
     let message = area(code.k(), wrong(7) && spoiled != 1, random);
     let row = area(code.n(), wrong(7) && spoiled != 0, random);
     match which {
-        0 => Case {
-            call: Call::Encode { q, u },
-            areas: vec![symbols, row],
-        },
+        0 => Case::of(Call::Encode { q, u }, vec![symbols, row]),
         1 => {
             let steps = match wrong(3) {
                 true => wrong_steps(code.q(), random),
                 false => random.below(step_count(code.q()) + 1) as u64,
             };
-            Case {
-                call: Call::Stop { q, u, steps },
-                areas: vec![symbols, work, message],
-            }
+            Case::of(Call::Stop { q, u, steps }, vec![symbols, work, message])
         }
-        _ => Case {
-            call: Call::Decode { q, u },
-            areas: vec![symbols, work, message, row],
-        },
+        _ => Case::of(Call::Decode { q, u }, vec![symbols, work, message, row]),
     }
 }

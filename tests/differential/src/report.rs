@@ -5,13 +5,16 @@ use reference::block::{unpack, PAYLOAD_BYTES, ROW_BYTES};
 use reference::calls::encode;
 use std::fmt::Write;
 
+/// The harness's result for a call that read or wrote past an area, or wrote where nothing is to be written.
+const FAULT: i64 = i64::MIN;
+
 /// The text of a row: a line with q and u, a line with the row.
 fn rowtrace_text(q: u64, u: u64, row: &[u8]) -> String {
     let numbers: Vec<String> = row.iter().map(u8::to_string).collect();
     format!("{q} {u}\n{}\n", numbers.join(" "))
 }
 
-fn result_of(bytes: &[u8]) -> i64 {
+pub fn result_of(bytes: &[u8]) -> i64 {
     let mut result = [0; 8];
     result.copy_from_slice(&bytes[..8]);
     i64::from_le_bytes(result)
@@ -20,6 +23,9 @@ fn result_of(bytes: &[u8]) -> i64 {
 /// The two results, or, if they agree, the first byte that differs.
 pub fn first_difference(call: &Call, body: &Body, expected: &[u8], answer: &[u8]) -> String {
     let (result, wanted) = (result_of(answer), result_of(expected));
+    if result == FAULT {
+        return format!("it touches what it may not, and the result is to be {wanted}");
+    }
     if result != wanted {
         return format!("the result is {result} instead of {wanted}");
     }
@@ -34,6 +40,9 @@ pub fn first_difference(call: &Call, body: &Body, expected: &[u8], answer: &[u8]
 pub fn case_in_words(case: &Case, expected: &Outcome) -> String {
     let lengths: Vec<usize> = case.areas.iter().map(Vec::len).collect();
     let mut text = format!("{:?}, areas of {lengths:?} bytes\n", case.call);
+    if let Some((area, length)) = case.told {
+        writeln!(text, "area {area} told as {length} bytes").expect("a string takes every text");
+    }
     match case.call {
         Call::Encode { q, u } => {
             let mut row = [0; 64];
@@ -48,6 +57,7 @@ pub fn case_in_words(case: &Case, expected: &Outcome) -> String {
             text += &rowtrace_text(q, u, &case.areas[0]);
         }
         Call::Verify { .. } => text += &rows_of_block(case, expected),
+        Call::PassOn { .. } => (),
         Call::Write => {
             let payload = &case.areas[0];
             let first = &payload[..payload.len().min(PAYLOAD_BYTES)];

@@ -18,30 +18,24 @@ fn numbers(code: &Code) -> (u64, u64) {
 
 pub fn encode_case(code: &Code, message: Vec<u8>, random: &mut Random) -> Case {
     let (q, u) = numbers(code);
-    Case {
-        call: Call::Encode { q, u },
-        areas: vec![message, lent(code.n(), random)],
-    }
+    Case::of(Call::Encode { q, u }, vec![message, lent(code.n(), random)])
 }
 
 pub fn stop_case(code: &Code, steps: usize, row: Vec<u8>, random: &mut Random) -> Case {
     let (q, u) = numbers(code);
     let steps = steps as u64;
     let work = lent(picture_size(code.q()), random);
-    Case {
-        call: Call::Stop { q, u, steps },
-        areas: vec![row, work, lent(code.k(), random)],
-    }
+    Case::of(
+        Call::Stop { q, u, steps },
+        vec![row, work, lent(code.k(), random)],
+    )
 }
 
 pub fn decode_case(code: &Code, row: Vec<u8>, random: &mut Random) -> Case {
     let (q, u) = numbers(code);
     let work = lent(picture_size(code.q()), random);
     let (message, corrected) = (lent(code.k(), random), lent(code.n(), random));
-    Case {
-        call: Call::Decode { q, u },
-        areas: vec![row, work, message, corrected],
-    }
+    Case::of(Call::Decode { q, u }, vec![row, work, message, corrected])
 }
 
 /// The row of a random message with this many places changed.

@@ -23,10 +23,10 @@ fn payload_of(length: usize, random: &mut Random) -> Vec<u8> {
 pub fn write_case(rows: usize, random: &mut Random) -> Case {
     let payload = payload_of(PAYLOAD_BYTES * rows, random);
     let spare = random.below(40);
-    Case {
-        call: Call::Write,
-        areas: vec![payload, random.bytes(block_bytes(rows) + spare)],
-    }
+    Case::of(
+        Call::Write,
+        vec![payload, random.bytes(block_bytes(rows) + spare)],
+    )
 }
 
 /// Lengths of payloads that fill no rows, part of a row, or more rows than a block has.
@@ -52,8 +52,6 @@ pub fn refused_write(index: usize, random: &mut Random) -> Case {
     };
     let needed = block_bytes(length / PAYLOAD_BYTES);
     let payload = payload_of(length, random);
-    Case {
-        call: Call::Write,
-        areas: vec![payload, area(needed, index & 2 == 2, random)],
-    }
+    let area = area(needed, index & 2 == 2, random);
+    Case::of(Call::Write, vec![payload, area])
 }

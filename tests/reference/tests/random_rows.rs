@@ -87,15 +87,7 @@ fn demand_3_holds_after_every_step_for_q_4() {
     let mut random = Random::seeded(seed);
     for code in all_codes(4) {
         check_every_step(code, &random.symbols(code.field, code.n()));
-        check_every_step(code, &vec![0; code.n()]);
-        for errors in [
-            0,
-            1,
-            code.reach() / 2,
-            code.reach(),
-            code.reach() + 1,
-            code.reach() + 2,
-        ] {
+        for errors in [0, code.reach(), code.reach() + 1] {
             let mut row = code.encode(&random.message(&code));
             random.damage(code.field, &mut row, errors);
             check_every_step(code, &row);
@@ -123,9 +115,7 @@ fn rows_of_q_4_within_reach_give_their_message() {
     let mut random = Random::seeded(seed);
     for code in all_codes(4) {
         for errors in 0..=code.reach() + 2 {
-            for _ in 0..4 {
-                check_damaged(&code, errors, &mut random);
-            }
+            check_damaged(&code, errors, &mut random);
         }
         check_acceptance(&code, &random.symbols(code.field, code.n()));
     }
@@ -137,7 +127,7 @@ fn rows_of_the_tape_code_within_reach_give_their_message() {
     println!("seed {seed}");
     let mut random = Random::seeded(seed);
     let code = Code::named(4, 45).unwrap();
-    for case in 0..3000 {
+    for case in 0..600 {
         check_damaged(&code, case % (code.reach() + 3), &mut random);
     }
 }
