@@ -8,3 +8,4 @@ pub mod CodeLaws
 pub mod MonomialAnswers
 pub mod Naming
 pub mod GivenChecks
+pub mod Settled

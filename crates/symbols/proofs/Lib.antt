@@ -8,3 +8,4 @@ pub mod FieldLaws
 pub mod TableRules
 pub mod SymbolLists
 mod Squaring
+pub mod Settled
