@@ -1,11 +1,16 @@
 -- The promise of `write` settles what is answered and left: any two results that it allows for one call are equal.
 -- Assumes nothing.
-use mathlib.Core.Path.{_≡_, sym, _∙_}
-use mathlib.Core.List.{List}
+use mathlib.Core.Path.{_≡_, sym, ap, _∙_}
+use mathlib.Core.Logic.{inr}
+use mathlib.Core.List.{List, [], _∷_}
 use Prim.Native.Nat.{ℕ}
 use lib.ListN.{length}
+use Rattle.refusals.specs.Numbers.{refusedBy, firstOf}
+use Rattle.refusals.proofs.Checks.{made-of}
+use Rattle.layout.specs.Layout.{blockLength}
 use Rattle.block.specs.declared.Written.{Written}
-use Rattle.block.specs.Writing.{writeChecks, writeAnswer, writeBlock}
+use Rattle.block.specs.declared.Written.the-variants.{Length, Refused}
+use Rattle.block.specs.Writing.{writtenAs, rowsFilled, writeChecks, writeAnswer, writeBlock}
 
 -- all that is said of a call of `write`
 pub record Writes (payload block : List ℕ) (answer : Written) (block′ : List ℕ) : Type 0 where
@@ -22,3 +27,10 @@ pub write-answer-by-length : (payload block block′ : List ℕ) → length bloc
     → writeAnswer payload block ≡ writeAnswer payload block′
 unfolding writeAnswer writeChecks
 write-answer-by-length payload block block′ e = rw e
+
+-- the answer in numbers: that of the first check that holds, else the length of the payload's block
+pub write-told : (payload block : List ℕ) {answer : Written} → answer ≡ writeAnswer payload block
+    → writtenAs answer ≡ firstOf (writeChecks payload block) refusedBy (inr (blockLength (rowsFilled payload) ∷ []))
+unfolding writeAnswer
+write-told payload block e =
+    ap writtenAs e ∙ made-of writtenAs Refused (Length (blockLength (rowsFilled payload))) (writeChecks payload block)

@@ -1,12 +1,13 @@
 -- What writing a block answers and leaves, for all inputs. Document 02, Wish 1.
 -- Assumes nothing.
 use mathlib.Core.Bool.{Bool, not, _&&_}
+use mathlib.Core.Logic.{inr}
 use mathlib.Core.List.{List, [], _∷_, _++_}
 use Prim.Native.Nat.{ℕ, _*_, _/_, _%_}
 use lib.Dec.{leb, eqb, ltb}
 use lib.ListN.{length, drop}
 use Rattle.refusals.specs.declared.Refusal.the-variants.{ShortOutput, WrongPayload}
-use Rattle.refusals.specs.Numbers.{Check, _if_, firstOf}
+use Rattle.refusals.specs.Numbers.{Told, refusedBy, Check, _if_, firstOf}
 use Rattle.lists.specs.Tables.{tab, join}
 use Rattle.voting.specs.Voting.{voted}
 use Rattle.packing.specs.Packing.{packed}
@@ -14,6 +15,11 @@ use Rattle.layout.specs.Layout.{tapeQ, tapeU, rowCount, blockLength, blockRow, 
 use Rattle.laying.specs.Laying.{codeRow}
 use Rattle.block.specs.declared.Written.{Written}
 use Rattle.block.specs.declared.Written.the-variants.{Length, Refused}
+
+-- the answer in numbers: the length of the block
+abbrev pub writtenAs : Written → Told
+writtenAs (Length bytes) = inr (bytes ∷ [])
+writtenAs (Refused why) = refusedBy why
 
 -- how many rows a payload fills
 unfoldable pub rowsFilled : List ℕ → ℕ

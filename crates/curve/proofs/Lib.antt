@@ -9,3 +9,4 @@ pub mod Distances
 pub mod MonomialAnswers
 pub mod Naming
 pub mod GivenChecks
+pub mod Settled

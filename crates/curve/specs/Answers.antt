@@ -1,5 +1,6 @@
 -- What a weight belongs to, and what q and u name, as answers. Document 01, "Fields and curve" and "Refusal numbers".
 -- Assumes nothing.
+use mathlib.Core.Logic.{inr}
 use mathlib.Core.Bool.{true, false, not}
 use mathlib.Core.List.{List, [], _∷_}
 use Prim.Native.Nat.{ℕ}
@@ -7,7 +8,7 @@ use lib.Dec.{eqb}
 use lib.ListN.{length}
 use Rattle.algebra.specs.Weights.{gap, xPower, yPower}
 use Rattle.refusals.specs.declared.Refusal.the-variants.{UnknownQ, NoCode, WrongLength, NoSymbol}
-use Rattle.refusals.specs.Numbers.{Check, _if_, firstOf}
+use Rattle.refusals.specs.Numbers.{Told, refusedBy, Check, _if_, firstOf}
 use Rattle.symbols.specs.Rule.{isKnown, anyBeyond}
 use Rattle.curve.specs.declared.Monomial.{Monomial}
 use Rattle.curve.specs.declared.Monomial.the-variants.{Gap, Powers}
@@ -35,3 +36,8 @@ symbolChecks q n given = (WrongLength if not (eqb (length given) n)) ∷ (NoSymb
 -- what q and u name
 unfoldable pub named : ℕ → ℕ → Named
 named q u = firstOf (codeChecks q u) Refused (Found (codeOf q u))
+
+-- the answer in numbers: a code has q, u, n, k and its reach
+abbrev pub namedAs : Named → Told
+namedAs (Found code) = inr (code .q ∷ code .u ∷ code .n ∷ code .k ∷ code .reach ∷ [])
+namedAs (Refused why) = refusedBy why

@@ -7,7 +7,6 @@ mod SymbolFor
 mod Remaining
 mod Interpolated
 mod Begun
-mod Scores
 mod Agreeing
 mod TermTaken
 mod AllSteps

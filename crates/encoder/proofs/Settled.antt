@@ -1,11 +1,15 @@
 -- The promise settles what is answered and left: any two results that it allows for one call are equal.
 -- Assumes nothing.
-use mathlib.Core.Path.{_≡_, sym, _∙_}
-use mathlib.Core.List.{List}
+use mathlib.Core.Path.{_≡_, sym, ap, _∙_}
+use mathlib.Core.Logic.{inr}
+use mathlib.Core.List.{List, []}
 use Prim.Native.Nat.{ℕ}
 use lib.ListN.{length}
+use Rattle.refusals.specs.Numbers.{refusedBy, firstOf}
+use Rattle.refusals.proofs.Checks.{made-of}
 use Rattle.encoder.specs.declared.Encoded.{Encoded}
-use Rattle.encoder.specs.Encoding.{encodeChecks, encodeAnswer, encodeOutput}
+use Rattle.encoder.specs.declared.Encoded.the-variants.{Done, Refused}
+use Rattle.encoder.specs.Encoding.{encodedAs, encodeChecks, encodeAnswer, encodeOutput}
 
 -- two results of encoding
 pub encode-settled : (q u : ℕ) (message output : List ℕ) {answer answer′ : Encoded} {output₁ output₂ : List ℕ}
@@ -19,3 +23,9 @@ pub answer-by-length : (q u : ℕ) (message output output′ : List ℕ) → len
     → encodeAnswer q u message output ≡ encodeAnswer q u message output′
 unfolding encodeAnswer encodeChecks
 answer-by-length q u message output output′ e = rw e
+
+-- the answer in numbers: that of the first check that holds, else no value
+pub encode-told : (q u : ℕ) (message output : List ℕ) {answer : Encoded} → answer ≡ encodeAnswer q u message output
+    → encodedAs answer ≡ firstOf (encodeChecks q u message output) refusedBy (inr [])
+unfolding encodeAnswer
+encode-told q u message output e = ap encodedAs e ∙ made-of encodedAs Refused Done (encodeChecks q u message output)

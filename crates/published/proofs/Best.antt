@@ -36,13 +36,13 @@ best-kept score (suc n) m e h l =
     let k : score (suc n) ≤ score (best score n) = rw (← y) l in
     y ∙ sym (best-next score n ∙ (rw (le-ltb (score (best score n)) (score (suc n)) k)))
 
--- no symbol has a score: 0
-best-none : (score : ℕ → ℕ) (n : ℕ) → ((a : ℕ) → a ≤ n → score a ≡ 0) → best score n ≡ 0
+-- no symbol but 0 has a score: 0
+pub best-none : (score : ℕ → ℕ) (n : ℕ) → ((a : ℕ) → a ≤ n → a ≢ 0 → score a ≡ 0) → best score n ≡ 0
 unfolding best
 best-none score zero none = refl
 best-none score (suc n) none =
     let before = best-none score n (λ a l. none a (omega arith)) in
-    rw (before, none 0 (omega arith), none (suc n) (omega arith))
+    rw (before, none (suc n) (omega arith) (omega arith), le-ltb (score 0) 0 (omega arith))
 
 -- one symbol alone has one: that symbol
 pub best-only : (score : ℕ → ℕ) (n b : ℕ) → b ≤ n → 0 < score b → ((a : ℕ) → a ≤ n → a ≢ b → score a ≡ 0) → best score n ≡ b
@@ -50,7 +50,7 @@ unfolding best
 best-only score zero b l some none = omega arith
 best-only score (suc n) b l some none = elim (ℕ-discrete b (suc n)) [
   | yes e ↦
-      let before = best-none score n (λ a l. none a (omega arith) (omega arith)) in
+      let before = best-none score n (λ a l ne. none a (omega arith) (omega arith)) in
       rw (before, none 0 (omega arith) (omega arith), lt-ltb 0 (score (suc n)) (rw e at some)) (sym e)
   | no ne ↦
       let before = best-only score n b (omega arith) some (λ a l. none a (omega arith)) in

@@ -56,13 +56,6 @@ module _ (𝓢 : Symbols) (q : ℕ) where
   unfolding partIn
   partIn-past work p part j i h = rw (le-ltb i (width q) h, partIn)
 
-  -- no monomial that occurs in the bytes has a power of x past the width
-  pub occurs-within : (work : List ℕ) (p : ℕ) (m : PartMonomial) → Occurs 𝓢 q (partIn 𝓢 q work p) m → m .x < width q
-  occurs-within work p m o = elim (decLt (m .x) (width q)) [
-    | yes l ↦ l
-    | no l ↦ absurd (o .nonzero (partIn-past work p (m .part) (m .y) (m .x) (omega arith)))
-  ]
-
   -- a bound of the weights of both parts, below what the width holds
   record Bounded (F : Parts 𝓢 q) : Type 0 where
     bound : ℕ

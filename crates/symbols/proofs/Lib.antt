@@ -7,3 +7,4 @@ mod BinaryField
 pub mod FieldLaws
 pub mod TableRules
 pub mod SymbolLists
+pub mod Settled

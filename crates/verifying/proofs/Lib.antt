@@ -5,3 +5,4 @@ pub mod Ends
 pub mod Again
 pub mod Copies
 pub mod Settled
+pub mod InNumbers

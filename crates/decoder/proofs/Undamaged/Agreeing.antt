@@ -22,6 +22,8 @@ use Rattle.published.proofs.Tests.{decided}
 use Rattle.published.proofs.PairNumbers.{pairing-paired, pairing-even, k-negative, negative-unvoted, k-whole, voted-whole}
 use Rattle.published.proofs.PairSymbols.{w-voted, w-unvoted, w-negative}
 use Rattle.published.proofs.VotedWeights.{unvoted-above, unvoted-gap, voted-below, voted-nongap}
+use Rattle.published.proofs.StepsAbove.{looked-weight as start-looked-weight}
+use Rattle.decoder.proofs.Undamaged.Interpolated.{valuesOf}
 use Rattle.decoder.proofs.Undamaged.Remaining.{below, below-in, below-out, below-looked}
 use Rattle.decoder.proofs.Undamaged.Begun.{begun, held-f, part-f-lower, degree-f, degree-g, leading-f}
 
@@ -57,12 +59,8 @@ module _ {𝓢 : Symbols} {q : ℕ} (𝓛 : Laws 𝓢 q) (A : Arranged 𝓢 q) (
 
       -- the monomial that is looked at weighs s more than y^i
       looked-weight : (k : ℕ) → k + P .partner ≡ quotient → weight q (P .partner) k ≡ s + (q + 1) * i
-      unfolding weight
-      looked-weight k e =
-          let zero-degree = degree-f 𝓛 (below 𝓢 q ω (suc s)) i hi in
-          let w = pair-weight q (pairing-paired 𝓢 q u s S i hi) (degreeF 𝓢 q S i) k e in
-          let n : weight q i (degreeF 𝓢 q S i) ≡ (q + 1) * i = ap (weight q i) zero-degree ∙ omega arith in
-          sym w ∙ omega (arith, n)
+      unfolding begun
+      looked-weight k e = start-looked-weight 𝓛 u (valuesOf 𝓢 q (below 𝓢 q ω (suc s))) s i hi k e
 
       -- its coefficient is minus the symbol of this weight
       looked-is : (k : ℕ) → k + P .partner ≡ quotient → coefficient 𝓢 q S (f q i) lower (P .partner) k ≡ minus (ω s)

@@ -19,25 +19,14 @@ use Rattle.published.specs.Start.{Polynomials, start, startWeight, stepCount}
 use Rattle.published.specs.Pairing.{Pairing, pairing, vote, isVoted}
 use Rattle.published.specs.Steps.{State, noPair, updated, pairings, step, after, substituted}
 use Rattle.published.proofs.Tests.{decided}
-use Rattle.published.proofs.Simultaneous.{changed-kept}
+use Rattle.published.proofs.Scores.{vote-only}
+use Rattle.published.proofs.StepsAbove.{updated-kept}
 use Rattle.decoder.proofs.Undamaged.Remaining.{below}
 use Rattle.decoder.proofs.Undamaged.Interpolated.{valuesOf}
 use Rattle.decoder.proofs.Undamaged.Begun.{begun}
 use Rattle.published.proofs.VotedWeights.{voted-nongap}
-use Rattle.decoder.proofs.Undamaged.Scores.{vote-only}
 use Rattle.decoder.proofs.Undamaged.Agreeing.{left-small, names, leads}
 use Rattle.decoder.proofs.Undamaged.TermTaken.{term-taken}
-
-module _ (𝓢 : Symbols) (q : ℕ) where
-  open Symbols 𝓢 using (K)
-
-  -- no pair changes anything if each names the vote
-  updated-kept : (w : K) (Ps : List (Pairing 𝓢 q)) (S : Polynomials 𝓢 q) (n : ℕ) → ((i : ℕ) → i < n → same 𝓢 (getD Ps i (noPair 𝓢 q) .w) w ≡ true)
-      → updated 𝓢 q w Ps S n ≡ S
-  unfolding updated
-  updated-kept w Ps S zero all = refl
-  updated-kept w Ps S (suc n) all =
-      changed-kept 𝓢 q w n (getD Ps n (noPair 𝓢 q)) (updated 𝓢 q w Ps S n) (all n (omega arith)) ∙ updated-kept w Ps S n (λ i l. all i (omega arith))
 
 module _ {𝓢 : Symbols} {q : ℕ} (𝓛 : Laws 𝓢 q) (A : Arranged 𝓢 q) (ω : ℕ → 𝓢 .K) (u : ℕ) (u-below : u < q * (q * q))
     (unvoted : (s : ℕ) → isVoted q u s ≡ false → ω s ≡ 𝓢 .𝟘) where
