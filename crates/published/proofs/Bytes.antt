@@ -24,7 +24,7 @@ use Rattle.published.specs.Start.{Polynomials, width, upper, lower, f, g
 use Rattle.published.specs.Pairing.{degreeF, degreeG}
 use Rattle.published.specs.Steps.{messageOf}
 use Rattle.published.specs.Picture.{place, layout, cellNumber, picture}
-use Rattle.published.specs.Meaning.{PartMonomial, Occurs, partIn, valueWith}
+use Rattle.published.specs.Meaning.{partIn, valueWith}
 use Rattle.published.proofs.Widths.{degree-fits}
 use Rattle.published.proofs.Parts.{Parts, SameParts, ZeroAt, upper-cut, lower-cut}
 use Rattle.published.proofs.Reading.{row-below, row-part, row-power, each-polynomial}

@@ -9,7 +9,7 @@ use Rattle.symbols.proofs.FieldLaws.{laws-of}
 use Rattle.curve.specs.Points.{pointAt}
 use Rattle.curve.specs.Codes.{pointCount}
 use Rattle.curve.proofs.Arranged.{Arranged, points-arranged}
-use Rattle.published.specs.Start.{Polynomials, width, stepCount, f, g, coefficient}
+use Rattle.published.specs.Start.{Polynomials, stepCount, f, g, coefficient}
 use Rattle.published.specs.Pairing.{degreeF, degreeG}
 use Rattle.published.specs.Steps.{after, messageOf}
 use Rattle.published.specs.Picture.{picture}

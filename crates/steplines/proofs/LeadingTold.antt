@@ -6,7 +6,7 @@ use mathlib.Core.Path.{_≡_, ap, sym, _∙_}
 use mathlib.Core.List.{List, _++_}
 use Prim.Native.Nat.{ℕ, _+_, _≤_, _<_}
 use lib.IntN.{ℤ}
-use lib.ListN.{length, getD, List·getD-append}
+use lib.ListN.{getD, List·getD-append}
 use lib.Seq.{getD-append-add}
 use Rattle.lists.specs.Tables.{tab}
 use Rattle.lists.proofs.Tables.{length-tab, getD-tab}

@@ -8,7 +8,6 @@ use mathlib.Core.List.{List, [], _∷_}
 use Prim.Native.Nat.{ℕ, zero, suc, _+_, _≤_}
 use native.Mathlib.Omega.{arith}
 use lib.Dec.{eqb}
-use lib.ListN.{length}
 use borrow.Author.Tests.{eqb-true, eqb-false}
 use Rattle.lists.specs.Tables.{from, tab}
 use Rattle.refusals.specs.Numbers.{refusedBy, firstOf}
@@ -19,7 +18,7 @@ use Rattle.taperow.specs.declared.Record.{Record}
 use Rattle.taperow.specs.Reading.{outcome, rowRecord}
 use Rattle.layout.specs.Layout.{rowCount}
 use Rattle.verifying.specs.declared.Verified.{Verified}
-use Rattle.verifying.specs.declared.Verified.the-variants.{Copied, Differs, Unreadable, Refused}
+use Rattle.verifying.specs.declared.Verified.the-variants.{Differs, Unreadable, Refused}
 use Rattle.verifying.specs.Verification.{verifiedAs, verdictFrom, allRecords, verifyChecks, verifyAnswer}
 use Rattle.verifying.specs.AsBytes.{byteChecks, verifyBytesAnswer}
 

@@ -1,7 +1,7 @@
 -- One step on y^i(z - F), where F is what is left of a message's function: every pair names the symbol of this weight, and the
 -- pair of f_0 has a positive c, so that this symbol is the vote.
 -- Assumes nothing.
-use mathlib.Core.Path.{_≡_, sym, ap, _∙_}
+use mathlib.Core.Path.{_≡_, sym, _∙_}
 use mathlib.Core.Bool.{true, false}
 use Prim.Native.Nat.{ℕ, suc, _+_, _*_, _-_, _<_}
 use native.Mathlib.Nat as Nat
@@ -13,7 +13,6 @@ use Rattle.algebra.specs.Weights.{weight}
 use Rattle.algebra.proofs.Ring.{units, minus-minus, one-mul}
 use Rattle.algebra.proofs.Powers.{two-le-q}
 use Rattle.algebra.proofs.WeightLaws.{weight-fits}
-use Rattle.algebra.proofs.Partners.{pair-weight}
 use Rattle.algebra.proofs.Bounds.{Cut}
 use Rattle.curve.proofs.Arranged.{Arranged}
 use Rattle.published.specs.Start.{Polynomials, lower, f, coefficient}
@@ -25,7 +24,7 @@ use Rattle.published.proofs.VotedWeights.{unvoted-above, unvoted-gap, voted-bel
 use Rattle.published.proofs.StepsAbove.{looked-weight as start-looked-weight}
 use Rattle.decoder.proofs.Undamaged.Interpolated.{valuesOf}
 use Rattle.decoder.proofs.Undamaged.Remaining.{below, below-in, below-out, below-looked}
-use Rattle.decoder.proofs.Undamaged.Begun.{begun, held-f, part-f-lower, degree-f, degree-g, leading-f}
+use Rattle.decoder.proofs.Undamaged.Begun.{begun, held-f, part-f-lower, degree-g, leading-f}
 
 module _ {𝓢 : Symbols} {q : ℕ} (𝓛 : Laws 𝓢 q) (A : Arranged 𝓢 q) (ω : ℕ → 𝓢 .K) (u : ℕ) (u-below : u < q * (q * q))
     (unvoted : (s : ℕ) → isVoted q u s ≡ false → ω s ≡ 𝓢 .𝟘) where

@@ -1,7 +1,7 @@
 -- All steps from a start whose h is a message's function: each vote is the symbol of its weight, and what is left loses that
 -- term, until nothing is left.
 -- Assumes nothing.
-use mathlib.Core.Path.{_≡_, refl, sym, ap, _∙_}
+use mathlib.Core.Path.{_≡_, sym, ap, _∙_}
 use mathlib.Core.Logic.{_≢_}
 use mathlib.Core.Bool.{true, false}
 use mathlib.Core.List.{List}
@@ -16,8 +16,8 @@ use Rattle.lists.proofs.Tables.{getD-tab}
 use Rattle.algebra.proofs.Ring.{equal-same}
 use Rattle.curve.proofs.Arranged.{Arranged}
 use Rattle.published.specs.Start.{Polynomials, start, startWeight, stepCount}
-use Rattle.published.specs.Pairing.{Pairing, pairing, vote, isVoted}
-use Rattle.published.specs.Steps.{State, noPair, updated, pairings, step, after, substituted}
+use Rattle.published.specs.Pairing.{pairing, vote, isVoted}
+use Rattle.published.specs.Steps.{State, noPair, pairings, step, after, substituted}
 use Rattle.published.proofs.Tests.{decided}
 use Rattle.published.proofs.Scores.{vote-only}
 use Rattle.published.proofs.StepsAbove.{updated-kept}
