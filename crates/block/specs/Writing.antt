@@ -10,18 +10,18 @@ use Rattle.refusals.specs.Numbers.{Check, _if_, firstOf}
 use Rattle.lists.specs.Tables.{tab, join}
 use Rattle.voting.specs.Voting.{voted}
 use Rattle.layout.specs.Packing.{packed}
-use Rattle.layout.specs.Layout.{tapeQ, tapeU, rowCount, blockLength, blockRow, blockOf}
+use Rattle.layout.specs.Layout.{tapeQ, tapeU, messageBytes, mostRows, rowCount, blockLength, blockRow, blockOf}
 use Rattle.taperow.specs.Laying.{codeRow}
 use Rattle.block.specs.declared.Written.{Written}
 use Rattle.block.specs.declared.Written.the-variants.{Length, Refused}
 
 -- how many rows a payload fills
 unfoldable pub rowsFilled : List ℕ → ℕ
-rowsFilled payload = length payload / 20
+rowsFilled payload = length payload / messageBytes
 
 -- a payload that can be written: whole messages of 20 bytes, at least one and at most 1,024
 unfoldable pub isPayload : List ℕ → Bool
-isPayload payload = eqb (length payload % 20) 0 && (leb 1 (rowsFilled payload) && leb (rowsFilled payload) 1024)
+isPayload payload = eqb (length payload % messageBytes) 0 && (leb 1 (rowsFilled payload) && leb (rowsFilled payload) mostRows)
 
 -- the rows of all its messages
 unfoldable pub codeRows : List ℕ → List (List ℕ)
@@ -49,4 +49,4 @@ writeBlock payload block =
 
 -- the payload that the rows of a block decode to
 unfoldable pub payloadOf : List ℕ → List ℕ
-payloadOf block = packed (join (rowCount block) (λ r. voted tapeQ tapeU (blockRow block r))) (20 * rowCount block)
+payloadOf block = packed (join (rowCount block) (λ r. voted tapeQ tapeU (blockRow block r))) (messageBytes * rowCount block)
