@@ -10,26 +10,27 @@ use lib.ListN.{length, getD}
 use borrow.Author.Tests.{eqb-true, leb-true}
 use Rattle.lists.proofs.Tables.{length-tab, getD-tab}
 use Rattle.layout.proofs.Laying.{Symbolic}
+use Rattle.layout.specs.Layout.{messageBytes, mostRows}
 use Rattle.laying.specs.Laying.{codeRow}
 use Rattle.laying.proofs.CodeRow.{code-length, code-small}
 use Rattle.block.specs.Writing.{rowsFilled, isPayload, codeRows}
 
 -- what is known of a payload that can be written
 pub record Fills (payload : List ℕ) : Type 0 where
-  pub whole : length payload ≡ 20 * rowsFilled payload
+  pub whole : length payload ≡ messageBytes * rowsFilled payload
   pub some : 1 ≤ rowsFilled payload
-  pub most : rowsFilled payload ≤ 1024
+  pub most : rowsFilled payload ≤ mostRows
 
 pub fills : (payload : List ℕ) → isPayload payload ≡ true → Fills payload
 unfolding isPayload rowsFilled
 fills payload right =
     let n = length payload in
-    let tests = and-eq-true-iff (eqb (n % 20) 0) (leb 1 (n / 20) && leb (n / 20) 1024) .0 right in
-    let bounds = and-eq-true-iff (leb 1 (n / 20)) (leb (n / 20) 1024) .0 (tests .1) in
+    let tests = and-eq-true-iff (eqb (n % messageBytes) 0) (leb 1 (n / messageBytes) && leb (n / messageBytes) mostRows) .0 right in
+    let bounds = and-eq-true-iff (leb 1 (n / messageBytes)) (leb (n / messageBytes) mostRows) .0 (tests .1) in
     record {
-      whole = omega (arith, eqb-true (n % 20) 0 (tests .0));
-      some = leb-true 1 (n / 20) (bounds .0);
-      most = leb-true (n / 20) 1024 (bounds .1);
+      whole = omega (arith, eqb-true (n % messageBytes) 0 (tests .0));
+      some = leb-true 1 (n / messageBytes) (bounds .0);
+      most = leb-true (n / messageBytes) mostRows (bounds .1);
     }
 
 module _ (payload : List ℕ) where

@@ -12,7 +12,7 @@ use Rattle.voting.specs.Voting.{voted}
 use Rattle.decoder.proofs.ReadingBack.{voted-row}
 use Rattle.voting.proofs.Votes.{voted-count}
 use Rattle.packing.specs.Packing.{symbolIn, packedByte, packed}
-use Rattle.layout.specs.Layout.{tapeQ, tapeU, messageLength, rowCount, blockRow, payloadRow}
+use Rattle.layout.specs.Layout.{messageBytes, tapeQ, tapeU, messageLength, rowCount, blockRow, payloadRow}
 use Rattle.packing.proofs.Packed.{byte-back}
 use Rattle.laying.specs.Laying.{codeRow}
 use Rattle.block.specs.Writing.{isPayload, blockFor, payloadOf}
@@ -64,8 +64,8 @@ module _ (payload : List ℕ) (right : isPayload payload ≡ true) (bytes : (i :
   unfolding payloadOf packed
   payload-back =
       sym
-      (tab-is 0 (20 * rowCount block) (packedByte messages) payload
-      (fills payload right .whole ∙ ap (λ (n : ℕ). 20 * n) (sym (written-count payload right)))
+      (tab-is 0 (messageBytes * rowCount block) (packedByte messages) payload
+      (fills payload right .whole ∙ ap (λ (n : ℕ). messageBytes * n) (sym (written-count payload right)))
       (λ i hi.
       sym
       (byte-back payload messages i (symbol-back (2 * i) (omega arith)) (symbol-back (2 * i + 1) (omega arith)))))

@@ -11,7 +11,7 @@ use borrow.Author.Tests.{eq-eqb, le-ltb}
 use Rattle.refusals.proofs.Checks.{Passes, done, clear, passed}
 use Rattle.lists.proofs.Tables.{tab-const}
 use Rattle.published.specs.Picture.{areaSize}
-use Rattle.layout.specs.Layout.{tapeQ, rowCount, isBlock, blockRow}
+use Rattle.layout.specs.Layout.{messageBytes, tapeQ, rowCount, isBlock, blockRow}
 use Rattle.layout.proofs.Laying.{laid-count, laid-block, row-laid}
 use Rattle.taperow.specs.Reading.{rowRecord}
 use Rattle.verifying.specs.Verification.{verdictFrom, allRecords, checksFor, verifyChecks, verifyAnswer}
@@ -62,9 +62,9 @@ module _ (payload : List ℕ) (right : isPayload payload ≡ true) where
   written-passes : (records work : ℕ) → rowCount block ≤ records → areaSize tapeQ ≤ work → Passes (checksFor block payload records work)
   unfolding checksFor
   written-passes records work enough room =
-      let long : length payload ≡ 20 * rowCount block = fills payload right .whole ∙ ap (λ (n : ℕ). 20 * n) (sym written-count) in
+      let long : length payload ≡ messageBytes * rowCount block = fills payload right .whole ∙ ap (λ (n : ℕ). messageBytes * n) (sym written-count) in
       clear (ap not written-block)
-      (clear (ap not (eq-eqb (length payload) (20 * rowCount block) long))
+      (clear (ap not (eq-eqb (length payload) (messageBytes * rowCount block) long))
       (clear (le-ltb records (rowCount block) enough) (clear (le-ltb work (areaSize tapeQ) room) done)))
 
   module _ (bytes : (i : ℕ) → getD payload i 0 < 256) where

@@ -14,7 +14,7 @@ use Rattle.refusals.specs.declared.Refusal.{Refusal}
 use Rattle.refusals.proofs.Checks.{Refuses, Passes, done, clear, refused, passed, decideChecks}
 use Rattle.lists.proofs.Pasted.{over-next}
 use Rattle.packing.specs.Packing.{packed}
-use Rattle.layout.specs.Layout.{blockLength, headerOf}
+use Rattle.layout.specs.Layout.{rowBytes, headerBytes, blockLength, headerOf}
 use Rattle.layout.proofs.Headers.{behind-header}
 use Rattle.layout.proofs.Laying.{laid-length, laid-header, row-bytes}
 use Rattle.block.specs.declared.Written.{Written}
@@ -35,13 +35,13 @@ module _ (payload : List ℕ) where
   written n area = take n (blockFor payload) ++ drop n area
 
   -- once the header is written
-  module _ (area started : List ℕ) (is : started ≡ headerOf (rowsFilled payload) ++ drop 8 area) where
+  module _ (area started : List ℕ) (is : started ≡ headerOf (rowsFilled payload) ++ drop headerBytes area) where
     -- behind it all is as it was
-    behind : drop 8 started ≡ drop 8 area
-    behind = ap (drop 8) is ∙ behind-header (rowsFilled payload) (drop 8 area)
+    behind : drop headerBytes started ≡ drop headerBytes area
+    behind = ap (drop headerBytes) is ∙ behind-header (rowsFilled payload) (drop headerBytes area)
 
     -- its 8 bytes are the block's
-    pub header-written : started ≡ written 8 started
+    pub header-written : started ≡ written headerBytes started
     header-written =
         is
         ∙ ap₂ (λ (a b : List ℕ). a ++ b)
@@ -51,21 +51,21 @@ module _ (payload : List ℕ) where
     -- and once all rows are
     pub all-written : written (blockLength (rowsFilled payload)) started ≡ blockFor payload ++ drop (blockLength (rowsFilled payload)) area
     all-written =
-        let bytes = 32 * rowsFilled payload in
+        let bytes = rowBytes * rowsFilled payload in
         ap₂ (λ (a b : List ℕ). a ++ b)
         (take-all (blockLength (rowsFilled payload)) (blockFor payload) (omega (arith, block-length)))
-        (sym (drop-drop bytes 8 started) ∙ ap (drop bytes) behind ∙ drop-drop bytes 8 area)
+        (sym (drop-drop bytes headerBytes started) ∙ ap (drop bytes) behind ∙ drop-drop bytes headerBytes area)
 
   -- one row more
   pub row-written : (area : List ℕ) (r : ℕ) → r < rowsFilled payload
-      → paste (written (8 + 32 * r) area) (8 + 32 * r) (packed (codeRow payload r) 32) 32 ≡ written (8 + 32 * (r + 1)) area
+      → paste (written (headerBytes + rowBytes * r) area) (headerBytes + rowBytes * r) (packed (codeRow payload r) rowBytes) rowBytes ≡ written (headerBytes + rowBytes * (r + 1)) area
   row-written area r less =
-      let row : take 32 (drop (8 + 32 * r) (blockFor payload)) ≡ packed (codeRow payload r) 32 =
-      row-bytes (codeRows payload) r (rw rows-count less) ∙ ap (λ (l : List ℕ). packed l 32) (row-is payload r less)
+      let row : take rowBytes (drop (headerBytes + rowBytes * r) (blockFor payload)) ≡ packed (codeRow payload r) rowBytes =
+      row-bytes (codeRows payload) r (rw rows-count less) ∙ ap (λ (l : List ℕ). packed l rowBytes) (row-is payload r less)
       in
-      let next : 8 + 32 * r + 32 ≡ 8 + 32 * (r + 1) = omega arith in
-      ap (λ (l : List ℕ). paste (written (8 + 32 * r) area) (8 + 32 * r) l 32) (sym row)
-      ∙ over-next (blockFor payload) area (8 + 32 * r) 32 (omega (arith, block-length))
+      let next : headerBytes + rowBytes * r + rowBytes ≡ headerBytes + rowBytes * (r + 1) = omega arith in
+      ap (λ (l : List ℕ). paste (written (headerBytes + rowBytes * r) area) (headerBytes + rowBytes * r) l rowBytes) (sym row)
+      ∙ over-next (blockFor payload) area (headerBytes + rowBytes * r) rowBytes (omega (arith, block-length))
       ∙ ap (λ (n : ℕ). written n area) next
 
 module _ (payload area : List ℕ) where

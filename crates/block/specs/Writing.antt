@@ -11,7 +11,7 @@ use Rattle.refusals.specs.Numbers.{Told, refusedBy, Check, _if_, firstOf}
 use Rattle.lists.specs.Tables.{tab, join}
 use Rattle.voting.specs.Voting.{voted}
 use Rattle.packing.specs.Packing.{packed}
-use Rattle.layout.specs.Layout.{tapeQ, tapeU, rowCount, blockLength, blockRow, blockOf}
+use Rattle.layout.specs.Layout.{tapeQ, tapeU, messageBytes, mostRows, rowCount, blockLength, blockRow, blockOf}
 use Rattle.laying.specs.Laying.{codeRow}
 use Rattle.block.specs.declared.Written.{Written}
 use Rattle.block.specs.declared.Written.the-variants.{Length, Refused}
@@ -23,11 +23,11 @@ writtenAs (Refused why) = refusedBy why
 
 -- how many rows a payload fills
 unfoldable pub rowsFilled : List ℕ → ℕ
-rowsFilled payload = length payload / 20
+rowsFilled payload = length payload / messageBytes
 
 -- a payload that can be written: whole messages of 20 bytes, at least one and at most 1,024
 unfoldable pub isPayload : List ℕ → Bool
-isPayload payload = eqb (length payload % 20) 0 && (leb 1 (rowsFilled payload) && leb (rowsFilled payload) 1024)
+isPayload payload = eqb (length payload % messageBytes) 0 && (leb 1 (rowsFilled payload) && leb (rowsFilled payload) mostRows)
 
 -- the rows of all its messages
 unfoldable pub codeRows : List ℕ → List (List ℕ)
@@ -55,4 +55,4 @@ writeBlock payload block =
 
 -- the payload that the rows of a block decode to
 unfoldable pub payloadOf : List ℕ → List ℕ
-payloadOf block = packed (join (rowCount block) (λ r. voted tapeQ tapeU (blockRow block r))) (20 * rowCount block)
+payloadOf block = packed (join (rowCount block) (λ r. voted tapeQ tapeU (blockRow block r))) (messageBytes * rowCount block)

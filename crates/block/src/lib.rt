@@ -12,6 +12,9 @@ ghost use Rattle.block.specs.declared.Written.the-variants.{Length};
 ghost use Rattle.block.specs.Writing.{writeAnswer, writeBlock};
 ghost use Rattle.block.specs.Untouched.{Untouched};
 use laying::lay_row;
+use layout::HEADER_BYTES;
+use layout::MESSAGE_BYTES;
+use layout::ROW_BYTES;
 use layout::put_header;
 use refusals::Refusal;
 use writing::is_payload;
@@ -32,8 +35,8 @@ pub fn write(payload: &[u8], block: &mut [u8]) -> Written
     if !is_payload(payload) {
         return Written::Refused(Refusal::WrongPayload);
     }
-    let rows = payload.len() / 20;
-    let size = 8 + 32 * rows;
+    let rows = payload.len() / MESSAGE_BYTES;
+    let size = HEADER_BYTES + ROW_BYTES * rows;
     if block.len() < size {
         return Written::Refused(Refusal::ShortOutput);
     }

@@ -1,4 +1,6 @@
 // Whether a payload can be written.
+use layout::MESSAGE_BYTES;
+use layout::MOST_ROWS;
 ghost use mathlib.Core.Path.{_≡_};
 ghost use Rattle.block.specs.Writing.{isPayload};
 
@@ -6,9 +8,9 @@ ghost use Rattle.block.specs.Writing.{isPayload};
 pub fn is_payload(payload: &[u8]) -> bool
     ensures { λ r. ⌜ r ≡ isPayload (now (payload .entry)) ⌝ }
 {
-    if payload.len() % 20 != 0 {
+    if payload.len() % MESSAGE_BYTES != 0 {
         return false;
     }
-    let rows = payload.len() / 20;
-    1 <= rows && rows <= 1024
+    let rows = payload.len() / MESSAGE_BYTES;
+    1 <= rows && rows <= MOST_ROWS
 }

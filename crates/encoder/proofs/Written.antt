@@ -9,6 +9,7 @@ use lib.ListN.{length, getD, drop, replicate}
 use Rattle.algebra.specs.Functions.{Fn, valueIn}
 use Rattle.lists.specs.Tables.{put}
 use Rattle.lists.proofs.Put.{put-in, put-same, put-parts, put-front}
+use Rattle.symbols.specs.Sizes.{mostQ, mostSymbols}
 use Rattle.symbols.specs.Rule.{Known, symbols, symbol}
 use Rattle.symbols.proofs.Bytes.{known-positive, known-high, square-small}
 use Rattle.curve.specs.Codes.{pointCount}
@@ -19,19 +20,19 @@ use Rattle.encoder.proofs.RowNumbers.{rowNumber, function, stages, row-
 
 -- the values of a column are the numbers of symbols
 pub column-holds : (q : ℕ) → Known q → (f : Fn (symbols q) q) (width x : ℕ) (values : List ℕ)
-    → values ≡ put (replicate 4 0) 0 q (columnNumber q f width x)
+    → values ≡ put (replicate mostQ 0) 0 q (columnNumber q f width x)
     → Holds q values q (λ j. valueIn (symbols q) q width (f j) (symbol q x))
 unfolding columnNumber
 column-holds q k f width x values e =
     record {
       at = λ i h.
           ap (λ l. getD l i 0) e
-          ∙ ap (λ n. getD (put (replicate 4 0) 0 q (columnNumber q f width x)) n 0) (sym (zero-add i))
-          ∙ put-in (replicate 4 0) 0 q (columnNumber q f width x) i 0 h (omega (arith, known-high q k));
+          ∙ ap (λ n. getD (put (replicate mostQ 0) 0 q (columnNumber q f width x)) n 0) (sym (zero-add i))
+          ∙ put-in (replicate mostQ 0) 0 q (columnNumber q f width x) i 0 h (omega (arith, known-high q k));
     }
 
 -- no power of x fills more than sixteen places
-pub width-small : (q u : ℕ) → Known q → u < pointCount q → u / q + 1 ≤ 16
+pub width-small : (q u : ℕ) → Known q → u < pointCount q → u / q + 1 ≤ mostSymbols
 unfolding pointCount
 width-small q u k h = omega (arith, div-lt-iff-lt-mul (known-positive q k) .1 h, square-small q k)
 

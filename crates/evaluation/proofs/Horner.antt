@@ -10,6 +10,7 @@ use Rattle.algebra.specs.Symbols.{Symbols, Laws}
 use Rattle.algebra.specs.Functions.{valueIn}
 use Rattle.algebra.proofs.Ring.{add-comm, add-zero as plus-zero, mul-zero}
 use Rattle.algebra.proofs.Polynomials.{valueIn-zero, valueIn-head, valueIn-cong}
+use Rattle.symbols.specs.Sizes.{mostSymbols}
 use Rattle.symbols.specs.Rule.{Known, Sym, sumOf, symbols, number, symbol}
 use Rattle.symbols.specs.Tables.{productRow, Holds}
 use Rattle.symbols.proofs.FieldLaws.{laws-of}
@@ -67,7 +68,7 @@ horner-last q products coefficients h a α k e held =
 -- one more
 pub horner-next : (q : ℕ) (products coefficients : List ℕ) (i value : ℕ) → 0 < i → i < length coefficients
     → IsPart q products coefficients i value
-    → IsPart q products coefficients (i - 1) (sumOf q (getD products (value % 16) 0) (getD coefficients (i - 1) 0))
+    → IsPart q products coefficients (i - 1) (sumOf q (getD products (value % mostSymbols) 0) (getD coefficients (i - 1) 0))
 horner-next q products coefficients i value h l known a α k e held =
     let tail = part (symbols q) q α (symbol q a) i (length coefficients - i) in
     let up : suc (i - 1) ≡ i = omega arith in

@@ -13,6 +13,7 @@ use borrow.Author.Tests.{lt-ltb, le-ltb}
 use Rattle.algebra.specs.Weights.{weight, xPower, yPower, gap, nongap}
 use Rattle.algebra.proofs.WeightLaws.{weight-powers, yPower-below, yPower-weight, xPower-weight, weight-fits, gap-none}
 use Rattle.lists.proofs.Numbers.{lt-or-ge}
+use Rattle.symbols.specs.Sizes.{mostQ, mostSymbols, mostPoints}
 use Rattle.symbols.specs.Rule.{Known}
 use Rattle.symbols.proofs.Bytes.{known-positive, known-high, square-small}
 use Rattle.curve.specs.Codes.{pointCount}
@@ -40,9 +41,9 @@ module _ (q : ℕ) (message : List ℕ) where
       (lt-or-ge (weight q j i) s)
 
   -- before the first weight all places are zero
-  pub spread-none : Known q → IsSpread q 0 message (replicate 64 0)
+  pub spread-none : Known q → IsSpread q 0 message (replicate mostPoints 0)
   spread-none k j i hj hi =
-      getD-replicate 64 (j * 16 + i) 0 0 (omega (arith, known-high q k)) ∙ sym (placed-out 0 j i (omega arith))
+      getD-replicate mostPoints (j * mostSymbols + i) 0 0 (omega (arith, known-high q k)) ∙ sym (placed-out 0 j i (omega arith))
 
   -- a gap brings nothing
   pub spread-gap : (s : ℕ) (bytes : List ℕ) → gap q s ≡ true → IsSpread q s message bytes → IsSpread q (s + 1) message bytes
@@ -50,7 +51,7 @@ module _ (q : ℕ) (message : List ℕ) where
 
   module _ (s : ℕ) (k : Known q) (small : s < pointCount q) (t : gap q s ≡ false) where
     -- the powers of a weight's monomial fit their places
-    pub powers-fit : (xPower q s < 16) × (yPower q s < 4)
+    pub powers-fit : (xPower q s < mostSymbols) × (yPower q s < mostQ)
     unfolding nongap
     powers-fit =
         let weighs = weight-powers q s (known-positive q k) (ap not t) in
@@ -58,30 +59,30 @@ module _ (q : ℕ) (message : List ℕ) where
         (omega (arith, square-small q k), omega (arith, yPower-below q s (known-positive q k), known-high q k))
 
     -- any other weight brings its byte
-    pub spread-next : (bytes : List ℕ) → length bytes ≡ 64 → IsSpread q s message bytes
-        → IsSpread q (s + 1) message (set bytes (yPower q s * 16 + xPower q s) (getD message (rank q s) 0))
+    pub spread-next : (bytes : List ℕ) → length bytes ≡ mostPoints → IsSpread q s message bytes
+        → IsSpread q (s + 1) message (set bytes (yPower q s * mostSymbols + xPower q s) (getD message (rank q s) 0))
     unfolding nongap
     spread-next bytes long held j i hj hi = elim (ℕ-discrete (weight q j i) s) [ yes e ↦ here e | no ne ↦ there ne ]
       where
         new : List ℕ
-        new = set bytes (yPower q s * 16 + xPower q s) (getD message (rank q s) 0)
+        new = set bytes (yPower q s * mostSymbols + xPower q s) (getD message (rank q s) 0)
 
-        here : weight q j i ≡ s → getD new (j * 16 + i) 0 ≡ placed q (s + 1) message j i
+        here : weight q j i ≡ s → getD new (j * mostSymbols + i) 0 ≡ placed q (s + 1) message j i
         here e =
             let y : yPower q s ≡ j = ap (yPower q) (sym e) ∙ yPower-weight q j i hj in
             let x : xPower q s ≡ i = ap (xPower q) (sym e) ∙ xPower-weight q j i hj in
-            let place : yPower q s * 16 + xPower q s ≡ j * 16 + i = omega arith in
+            let place : yPower q s * mostSymbols + xPower q s ≡ j * mostSymbols + i = omega arith in
             ap (λ n. getD new n 0) (sym place)
-            ∙ getD-set-same bytes (yPower q s * 16 + xPower q s) (getD message (rank q s) 0) 0 (omega (arith, powers-fit))
+            ∙ getD-set-same bytes (yPower q s * mostSymbols + xPower q s) (getD message (rank q s) 0) 0 (omega (arith, powers-fit))
             ∙ sym (placed-in (s + 1) j i (omega arith) ∙ ap (λ n. getD message (rank q n) 0) e)
 
-        there : weight q j i ≢ s → getD new (j * 16 + i) 0 ≡ placed q (s + 1) message j i
+        there : weight q j i ≢ s → getD new (j * mostSymbols + i) 0 ≡ placed q (s + 1) message j i
         there ne =
-            getD-set-other bytes (yPower q s * 16 + xPower q s) (j * 16 + i) (getD message (rank q s) 0) 0 apart
+            getD-set-other bytes (yPower q s * mostSymbols + xPower q s) (j * mostSymbols + i) (getD message (rank q s) 0) 0 apart
             ∙ held j i hj hi
             ∙ sym (placed-other s j i ne)
           where
-            apart : j * 16 + i ≢ yPower q s * 16 + xPower q s
+            apart : j * mostSymbols + i ≢ yPower q s * mostSymbols + xPower q s
             apart e =
                 let y : j ≡ yPower q s = omega (arith, powers-fit) in
                 let x : i ≡ xPower q s = omega (arith, powers-fit) in

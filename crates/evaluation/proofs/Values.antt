@@ -8,6 +8,7 @@ use lib.ListN.{length, getD, take, drop, length-take, length-drop}
 use lib.Seq.{getD-take, getD-drop}
 use Rattle.algebra.specs.Functions.{Fn, valueIn}
 use Rattle.lists.proofs.Numbers.{row-fits}
+use Rattle.symbols.specs.Sizes.{mostQ, mostSymbols, mostPoints}
 use Rattle.symbols.specs.Rule.{Known, Sym, symbols, number, symbol}
 use Rattle.symbols.specs.Tables.{productRow, Holds}
 use Rattle.symbols.proofs.FieldLaws.{laws-of}
@@ -31,16 +32,16 @@ module _ (q : ℕ) (k : Known q) (products : List ℕ) (value : ℕ) where
       is a α k e (record { at = λ i h. held .at i (rw long at h) }) ∙ ap (λ m. number q (valueIn (symbols q) q m α (symbol q a))) long
 
   -- the places of y^j give the value at x of the polynomial that stands there
-  pub column-value : (f : Fn (symbols q) q) (places : List ℕ) (x j n : ℕ) → j < q → n ≤ 16 → length places ≡ 64
+  pub column-value : (f : Fn (symbols q) q) (places : List ℕ) (x j n : ℕ) → j < q → n ≤ mostSymbols → length places ≡ mostPoints
       → HoldsFunction q f places
-      → products ≡ productRow q x → IsValue q products (take n (drop (j * 16) places)) value → value ≡ columnNumber q f n x j
+      → products ≡ productRow q x → IsValue q products (take n (drop (j * mostSymbols) places)) value → value ≡ columnNumber q f n x j
   unfolding columnNumber
   column-value f places x j n hj hn long held e is =
-      value-of x n (f j) (take n (drop (j * 16) places)) (rw (length-take, length-drop) (omega (arith, known-high q k))) e
-      (record { at = λ i h. getD-take n (drop (j * 16) places) i 0 h ∙ getD-drop (j * 16) places i 0 ∙ held j i hj (omega arith) }) is
+      value-of x n (f j) (take n (drop (j * mostSymbols) places)) (rw (length-take, length-drop) (omega (arith, known-high q k))) e
+      (record { at = λ i h. getD-take n (drop (j * mostSymbols) places) i 0 h ∙ getD-drop (j * mostSymbols) places i 0 ∙ held j i hj (omega arith) }) is
 
   -- the values at x give the value at y number b above x
-  pub fibre-value : (v : ℕ → Sym q) (values : List ℕ) (x b : ℕ) → x < q * q → b < q → length values ≡ 4 → Holds q values q v
+  pub fibre-value : (v : ℕ → Sym q) (values : List ℕ) (x b : ℕ) → x < q * q → b < q → length values ≡ mostQ → Holds q values q v
       → products ≡ productRow q (getD (ordinatesAbove q x) b 0) → IsValue q products (take q values) value
       → value ≡ fibreNumber q v x b
   unfolding fibreNumber

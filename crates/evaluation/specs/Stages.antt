@@ -10,6 +10,7 @@ use lib.ListN.{length, getD, replicate}
 use Rattle.algebra.specs.Weights.{weight}
 use Rattle.algebra.specs.Functions.{Fn, valueIn}
 use Rattle.lists.specs.Tables.{put}
+use Rattle.symbols.specs.Sizes.{mostQ, mostSymbols}
 use Rattle.symbols.specs.Rule.{Known, Sym, symbols, number, symbol}
 use Rattle.symbols.specs.Tables.{productRow, Holds}
 use Rattle.curve.specs.Points.{pointAt}
@@ -25,13 +26,13 @@ IsValue q products coefficients value =
 unfoldable pub placed : ℕ → ℕ → List ℕ → ℕ → ℕ → ℕ
 placed q s message j i = elim (ltb (weight q j i) s) [ true ↦ getD message (rank q (weight q j i)) 0 | false ↦ 0 ]
 
--- sixteen bytes for each power of y: those of the message in their places
+-- a byte for each power of y and x: those of the message in their places
 abbrev pub IsSpread : ℕ → ℕ → List ℕ → List ℕ → Type 0
-IsSpread q s message bytes = (j i : ℕ) → j < q → i < 16 → getD bytes (j * 16 + i) 0 ≡ placed q s message j i
+IsSpread q s message bytes = (j i : ℕ) → j < q → i < mostSymbols → getD bytes (j * mostSymbols + i) 0 ≡ placed q s message j i
 
--- sixteen bytes for each power of y: the numbers of a function's coefficients
+-- a byte for each power of y and x: the numbers of a function's coefficients
 abbrev pub HoldsFunction : (q : ℕ) → Fn (symbols q) q → List ℕ → Type 0
-HoldsFunction q f bytes = (j i : ℕ) → j < q → i < 16 → getD bytes (j * 16 + i) 0 ≡ number q (f j i)
+HoldsFunction q f bytes = (j i : ℕ) → j < q → i < mostSymbols → getD bytes (j * mostSymbols + i) 0 ≡ number q (f j i)
 
 -- the value at x of the polynomial in x that stands at y^j
 unfoldable pub columnNumber : (q : ℕ) → Fn (symbols q) q → ℕ → ℕ → ℕ → ℕ
@@ -40,7 +41,7 @@ columnNumber q f width x j = number q (valueIn (symbols q) q width (f j) (symbol
 -- the values of all of them
 abbrev pub IsColumn : ℕ → ℕ → ℕ → List ℕ → List ℕ → Type 0
 IsColumn q width x coefficients values =
-    (f : Fn (symbols q) q) → HoldsFunction q f coefficients → values ≡ put (replicate 4 0) 0 q (columnNumber q f width x)
+    (f : Fn (symbols q) q) → HoldsFunction q f coefficients → values ≡ put (replicate mostQ 0) 0 q (columnNumber q f width x)
 
 -- the value at y number b above x number a of the polynomial in y with coefficients v
 unfoldable pub fibreNumber : (q : ℕ) → (ℕ → Sym q) → ℕ → ℕ → ℕ

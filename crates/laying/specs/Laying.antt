@@ -4,7 +4,7 @@ use mathlib.Core.List.{List}
 use Prim.Native.Nat.{ℕ}
 use Rattle.encoder.specs.Encoding.{rowNumbers}
 use Rattle.packing.specs.Packing.{unpacked, packed}
-use Rattle.layout.specs.Layout.{tapeQ, tapeU, messageLength, payloadRow}
+use Rattle.layout.specs.Layout.{tapeQ, tapeU, messageLength, rowBytes, payloadRow}
 
 -- the row that message r of a payload becomes
 unfoldable pub codeRow : List ℕ → ℕ → List ℕ
@@ -12,4 +12,4 @@ codeRow payload r = rowNumbers tapeQ tapeU (payloadRow payload r)
 
 -- what one message of 20 bytes becomes: the 32 bytes of its row
 unfoldable pub packedRow : List ℕ → List ℕ
-packedRow original = packed (rowNumbers tapeQ tapeU (unpacked original messageLength)) 32
+packedRow original = packed (rowNumbers tapeQ tapeU (unpacked original messageLength)) rowBytes

@@ -5,9 +5,18 @@ ghost use lib.ListN.{length};
 ghost use lib.Seq.{paste};
 ghost use Rattle.curve.specs.Answers.{codeOf};
 ghost use Rattle.packing.specs.Packing.{packed};
-ghost use Rattle.layout.specs.Layout.{tapeQ, tapeU};
+ghost use Rattle.layout.specs.Layout.{tapeQ, tapeU, rowBytes, messageBytes, headerBytes};
 ghost use Rattle.laying.specs.Laying.{codeRow, packedRow};
 use curve::Code;
+use layout::FIRST_END;
+use layout::HEADER_BYTES;
+use layout::MESSAGE_BYTES;
+use layout::MESSAGE_LENGTH;
+use layout::ROW_BYTES;
+use layout::ROW_LENGTH;
+use layout::TAPE_Q;
+use layout::TAPE_REACH;
+use layout::TAPE_U;
 use packing::pack;
 use packing::unpack;
 
@@ -16,22 +25,22 @@ fn tape_code() -> Code
     ensures { λ code. ⌜ code ≡ codeOf tapeQ tapeU ⌝ }
 {
     Code {
-        q: 4,
-        u: 45,
-        n: 64,
-        k: 40,
-        reach: 9,
+        q: TAPE_Q,
+        u: TAPE_U,
+        n: ROW_LENGTH,
+        k: MESSAGE_LENGTH,
+        reach: TAPE_REACH,
     }
 }
 
 // A message of 20 bytes becomes the 32 bytes of its row.
 fn encode_packed(original: &[u8], row: &mut [u8])
-    requires { ⌜ (length (now original) ≡ 20) × (length (now row) ≡ 32) ⌝ }
+    requires { ⌜ (length (now original) ≡ messageBytes) × (length (now row) ≡ rowBytes) ⌝ }
     ensures { λ _. ⌜ now (row .exit) ≡ packedRow (now (original .entry)) ⌝ }
 {
-    let mut message = [0u8; 40];
+    let mut message = [0u8; MESSAGE_LENGTH];
     unpack(original, &mut message);
-    let mut symbols = [0u8; 64];
+    let mut symbols = [0u8; ROW_LENGTH];
     let code = tape_code();
     encoder::encode_row(code, &message, &mut symbols);
     pack(&symbols, row);
@@ -39,12 +48,12 @@ fn encode_packed(original: &[u8], row: &mut [u8])
 
 // Lays row r: its 32 bytes from byte 8 + 32r of the block on, and no other.
 pub fn lay_row(payload: &[u8], r: usize, block: &mut [u8])
-    requires { ⌜ (20 + 20 * r ≤ length (now payload)) × (40 + 32 * r ≤ length (now block)) ⌝ }
+    requires { ⌜ (messageBytes + messageBytes * r ≤ length (now payload)) × (headerBytes + rowBytes + rowBytes * r ≤ length (now block)) ⌝ }
     ensures { λ _. ⌜ now (block .exit)
-        ≡ paste (now (block .entry)) (8 + 32 * r) (packed (codeRow (now (payload .entry)) r) 32) 32 ⌝ }
+        ≡ paste (now (block .entry)) (headerBytes + rowBytes * r) (packed (codeRow (now (payload .entry)) r) rowBytes) rowBytes ⌝ }
 {
     encode_packed(
-        &payload[20 * r..20 + 20 * r],
-        &mut block[8 + 32 * r..40 + 32 * r],
+        &payload[MESSAGE_BYTES * r..MESSAGE_BYTES + MESSAGE_BYTES * r],
+        &mut block[HEADER_BYTES + ROW_BYTES * r..FIRST_END + ROW_BYTES * r],
     );
 }

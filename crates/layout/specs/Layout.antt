@@ -9,7 +9,7 @@ use lib.ListN.{length, getD, drop}
 use Rattle.lists.specs.Tables.{tab}
 use Rattle.packing.specs.Packing.{symbolIn, packed}
 
--- the tape code: q = 4, u = 45, n = 64, k = 40
+-- the tape code: q = 4, u = 45, n = 64, k = 40, and it reaches 9 places
 abbrev pub tapeQ : ℕ
 tapeQ = 4
 
@@ -21,6 +21,22 @@ rowLength = 64
 
 abbrev pub messageLength : ℕ
 messageLength = 40
+
+abbrev pub tapeReach : ℕ
+tapeReach = 9
+
+-- bytes of a row and of its message, which have two symbols each, and of the header; and the most rows that a block has
+abbrev pub rowBytes : ℕ
+rowBytes = rowLength / 2
+
+abbrev pub messageBytes : ℕ
+messageBytes = messageLength / 2
+
+abbrev pub headerBytes : ℕ
+headerBytes = 8
+
+abbrev pub mostRows : ℕ
+mostRows = 1024
 
 -- the number that two bytes are, the high one first, and that four bytes are
 unfoldable pub twoBytes : List ℕ → ℕ → ℕ
@@ -42,15 +58,15 @@ rowCount block = twoBytes block 6
 
 -- bytes of a block of R rows
 abbrev pub blockLength : ℕ → ℕ
-blockLength R = 8 + 32 * R
+blockLength R = headerBytes + rowBytes * R
 
 -- whether the first 8 bytes are a header: the length of what follows its own 4 bytes, version 1, u, and R from 1 to 1,024
 unfoldable pub isHeader : List ℕ → Bool
 isHeader block =
-    eqb (fourBytes block 0) (4 + 32 * rowCount block)
+    eqb (fourBytes block 0) (4 + rowBytes * rowCount block)
     && (eqb (getD block 4 0) 1
     && (eqb (getD block 5 0) tapeU
-    && (leb 1 (rowCount block) && leb (rowCount block) 1024)))
+    && (leb 1 (rowCount block) && leb (rowCount block) mostRows)))
 
 -- a block: a header, and behind it R rows and no byte more
 unfoldable pub isBlock : List ℕ → Bool
@@ -58,7 +74,7 @@ isBlock block = eqb (length block) (blockLength (rowCount block)) && isHeader bl
 
 -- the header of a block of R rows
 unfoldable pub headerOf : ℕ → List ℕ
-headerOf R = inFourBytes (4 + 32 * R) ++ (1 ∷ tapeU ∷ inTwoBytes R)
+headerOf R = inFourBytes (4 + rowBytes * R) ++ (1 ∷ tapeU ∷ inTwoBytes R)
 
 -- where symbol j of row r stands among the symbols behind the header
 unfoldable pub symbolPlace : ℕ → ℕ → ℕ
@@ -73,7 +89,7 @@ columnAt place = place % rowLength
 
 -- the symbols of row r of a block
 unfoldable pub blockRow : List ℕ → ℕ → List ℕ
-blockRow block r = tab rowLength (λ j. symbolIn (drop 8 block) (symbolPlace r j))
+blockRow block r = tab rowLength (λ j. symbolIn (drop headerBytes block) (symbolPlace r j))
 
 -- the message of row r: a payload has 20 bytes for each row
 unfoldable pub payloadRow : List ℕ → ℕ → List ℕ
@@ -85,4 +101,4 @@ laidSymbol rows place = getD (getD rows (rowAt place) []) (columnAt place) 0
 
 -- the block that has these rows
 unfoldable pub blockOf : List (List ℕ) → List ℕ
-blockOf rows = headerOf (length rows) ++ packed (tab (rowLength * length rows) (laidSymbol rows)) (32 * length rows)
+blockOf rows = headerOf (length rows) ++ packed (tab (rowLength * length rows) (laidSymbol rows)) (rowBytes * length rows)

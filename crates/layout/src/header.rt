@@ -1,10 +1,15 @@
 // The header of a block: what its bytes say, whether a block is as they say, and writing one. Any slice is read, however short:
 // a byte past its end counts as 0, and the length rules such a block out.
+use crate::sizes::HEADER_BYTES;
+use crate::sizes::HEADER_U;
+use crate::sizes::MOST_ROWS;
+use crate::sizes::ROW_BYTES;
+use crate::sizes::TAPE_U;
 ghost use mathlib.Core.Path.{_≡_};
 ghost use mathlib.Core.List.{_++_};
 ghost use Prim.Native.Nat.{_<_, _≤_};
 ghost use lib.ListN.{length, getD, drop};
-ghost use Rattle.layout.specs.Layout.{twoBytes, fourBytes, rowCount, isHeader, isBlock, headerOf};
+ghost use Rattle.layout.specs.Layout.{headerBytes, mostRows, twoBytes, fourBytes, rowCount, isHeader, isBlock, headerOf};
 
 // The byte at a place, 0 past the end.
 fn byte_at(bytes: &[u8], at: usize) -> usize
@@ -19,7 +24,7 @@ fn byte_at(bytes: &[u8], at: usize) -> usize
 
 // A big-endian number of two bytes.
 fn two_bytes(bytes: &[u8], at: usize) -> usize
-    requires { ⌜ at < 8 ⌝ }
+    requires { ⌜ at < headerBytes ⌝ }
     ensures { λ r. ⌜ (r ≡ twoBytes (now (bytes .entry)) at) × (r < 65536) ⌝ }
 {
     byte_at(bytes, at) * 256 + byte_at(bytes, at + 1)
@@ -45,23 +50,23 @@ fn is_header(block: &[u8]) -> bool
     ensures { λ r. ⌜ r ≡ isHeader (now (block .entry)) ⌝ }
 {
     let rows = row_count(block);
-    if four_bytes(block, 0) != 4 + 32 * rows {
+    if four_bytes(block, 0) != 4 + ROW_BYTES * rows {
         return false;
     }
     if byte_at(block, 4) != 1 {
         return false;
     }
-    if byte_at(block, 5) != 45 {
+    if byte_at(block, 5) != TAPE_U {
         return false;
     }
-    1 <= rows && rows <= 1024
+    1 <= rows && rows <= MOST_ROWS
 }
 
 // Whether header and total length are as document 01 has them.
 pub fn is_block(block: &[u8]) -> bool
     ensures { λ r. ⌜ r ≡ isBlock (now (block .entry)) ⌝ }
 {
-    if block.len() != 8 + 32 * row_count(block) {
+    if block.len() != HEADER_BYTES + ROW_BYTES * row_count(block) {
         return false;
     }
     is_header(block)
@@ -69,16 +74,16 @@ pub fn is_block(block: &[u8]) -> bool
 
 // Writes the header of a block of so many rows to the first 8 bytes.
 pub fn put_header(rows: usize, block: &mut [u8])
-    requires { ⌜ (rows ≤ 1024) × (8 ≤ length (now block)) ⌝ }
-    ensures { λ _. ⌜ now (block .exit) ≡ headerOf rows ++ drop 8 (now (block .entry)) ⌝ }
+    requires { ⌜ (rows ≤ mostRows) × (headerBytes ≤ length (now block)) ⌝ }
+    ensures { λ _. ⌜ now (block .exit) ≡ headerOf rows ++ drop headerBytes (now (block .entry)) ⌝ }
 {
-    let length = 4 + 32 * rows;
+    let length = 4 + ROW_BYTES * rows;
     block[0] = (length / 65536 / 256 % 256) as u8;
     block[1] = (length / 65536 % 256) as u8;
     block[2] = (length / 256 % 256) as u8;
     block[3] = (length % 256) as u8;
     block[4] = 1;
-    block[5] = 45;
+    block[5] = HEADER_U;
     block[6] = (rows / 256 % 256) as u8;
     block[7] = (rows % 256) as u8;
 }

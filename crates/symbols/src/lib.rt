@@ -65,8 +65,8 @@ fn part_of(table: &[u8], start: usize, n: usize) -> [u8; MOST_SYMBOLS]
     row
 }
 
-// The places of a row of the largest q, from a start on in its table, copied at once. They are added to zeros: the compiler makes one wide move of such a
-// loop wherever it is used, while it takes a plain copy apart where the row of q = 2 can come in its place.
+// The places of a row of the largest q, from a start on in its table, copied at once. They are added to zeros: the compiler makes
+// one wide move of such a loop wherever it is used, while it takes a plain copy apart where the row of q = 2 can come in its place.
 fn whole_row(table: &[u8], start: usize) -> [u8; MOST_SYMBOLS]
     requires { ⌜ start + mostSymbols ≤ length (now table) ⌝ }
     ensures { λ r. ⌜ r ≡ put (replicate mostSymbols 0) 0 mostSymbols (placesOn (now (table .entry)) start) ⌝ }

@@ -17,7 +17,7 @@ use Rattle.refusals.proofs.Checks.{Refuses, Passes, refused, passed, decideChec
 use Rattle.lists.specs.Tables.{from, tab}
 use Rattle.published.specs.Picture.{areaSize}
 use Rattle.voting.specs.Voting.{cleared}
-use Rattle.layout.specs.Layout.{tapeQ, rowCount}
+use Rattle.layout.specs.Layout.{tapeReach, rowBytes, messageBytes, headerBytes, tapeQ, rowCount}
 use Rattle.taperow.specs.Reading.{rowRecord}
 use Rattle.verifying.specs.Verification.{checksFor, verdictFrom}
 use Rattle.verifying.specs.Inside.{verdictBefore, rowsToRead, nextVerdict, totalOf}
@@ -116,12 +116,12 @@ unfolding after tab
 after-all f n = sym (from-copied 0 0 (from 0 n f) ∙ over-after (Copied 0) f 0 n ∙ ap (after (Copied 0) f) (zero-add n))
 
 -- the sum of counts grows by at most 9 a row
-next-total : (v : Verified) (r : ℕ) (x : Record) → x .count ≤ 9 → totalOf (nextVerdict v r x) ≤ totalOf v + 9
+next-total : (v : Verified) (r : ℕ) (x : Record) → x .count ≤ tapeReach → totalOf (nextVerdict v r x) ≤ totalOf v + tapeReach
 unfolding nextVerdict totalOf
 next-total (Copied total) r x small = by-state (eqb (x .state) 0) (eqb (x .state) 1)
   where
     -- by the row's two tests
-    by-state : (zero one : Bool) → totalOf (byState zero one r (Copied (total + x .count))) ≤ total + 9
+    by-state : (zero one : Bool) → totalOf (byState zero one r (Copied (total + x .count))) ≤ total + tapeReach
     by-state true one = omega arith
     by-state false true = zero-le
     by-state false false = zero-le
@@ -130,15 +130,15 @@ next-total (Unreadable i) r x small = zero-le
 next-total (Refused why) r x small = zero-le
 
 -- after k rows the sum is at most 9k more
-total-small : (v : Verified) (f : ℕ → Record) → ((k : ℕ) → f k .count ≤ 9) → (k : ℕ) → totalOf (after v f k) ≤ totalOf v + 9 * k
+total-small : (v : Verified) (f : ℕ → Record) → ((k : ℕ) → f k .count ≤ tapeReach) → (k : ℕ) → totalOf (after v f k) ≤ totalOf v + tapeReach * k
 unfolding after
 total-small v f small zero = omega arith
 total-small v f small (suc k) = omega (arith, total-small v f small k, next-total (after v f k) k (f k) (small k))
 
 -- what row r needs of what is lent
 pub record Ready (block payload : List ℕ) (records work r : ℕ) : Type 0 where
-  pub row : 40 + 32 * r ≤ length block
-  pub message : 20 + 20 * r ≤ length payload
+  pub row : headerBytes + rowBytes + rowBytes * r ≤ length block
+  pub message : messageBytes + messageBytes * r ≤ length payload
   pub place : r < records
   pub room : areaSize tapeQ ≤ work
   pub sum :

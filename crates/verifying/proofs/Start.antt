@@ -9,7 +9,7 @@ use borrow.Author.Tests.{eq-eqb, ne-eqb, le-ltb, lt-ltb, eqb-true, ltb-false, no
 use Rattle.refusals.specs.declared.Refusal.the-variants.{ShortWork, BadBlock, WrongPayload, FewRecords}
 use Rattle.refusals.proofs.Checks.{here, later, Passes, done, clear, refused, passed}
 use Rattle.published.specs.Picture.{areaSize}
-use Rattle.layout.specs.Layout.{tapeQ, rowCount, isBlock}
+use Rattle.layout.specs.Layout.{rowBytes, messageBytes, headerBytes, mostRows, tapeQ, rowCount, isBlock}
 use Rattle.layout.proofs.Headers.{sized}
 use Rattle.verifying.specs.Verification.{checksFor}
 use Rattle.verifying.specs.Inside.{verdictBefore}
@@ -24,11 +24,11 @@ module _ (block payload : List ℕ) (records work : ℕ) where
 
   module _ (good : isBlock block ≡ true) where
     -- 10: a payload of another length
-    pub before-10 : (length payload ≡ 20 * rowCount block → ⊥) → Refused WrongPayload ≡ verdictBefore block payload records work
+    pub before-10 : (length payload ≡ messageBytes * rowCount block → ⊥) → Refused WrongPayload ≡ verdictBefore block payload records work
     unfolding verdictBefore checksFor
     before-10 other = sym (refused Refused (Copied 0) (later (ap not good) (here (ap not (ne-eqb _ _ other)))))
 
-    module _ (long : length payload ≡ 20 * rowCount block) where
+    module _ (long : length payload ≡ messageBytes * rowCount block) where
       -- 11: fewer records
       pub before-11 : records < rowCount block → Refused FewRecords ≡ verdictBefore block payload records work
       unfolding verdictBefore checksFor
@@ -56,10 +56,10 @@ module _ (block payload : List ℕ) (records work : ℕ) where
 
 -- what is known of a block and of what is lent where no check holds
 pub record Fit (block payload : List ℕ) (records work : ℕ) : Type 0 where
-  pub rows : length block ≡ 8 + 32 * rowCount block
+  pub rows : length block ≡ headerBytes + rowBytes * rowCount block
   pub some : 1 ≤ rowCount block
-  pub most : rowCount block ≤ 1024
-  pub messages : length payload ≡ 20 * rowCount block
+  pub most : rowCount block ≤ mostRows
+  pub messages : length payload ≡ messageBytes * rowCount block
   pub enough : rowCount block ≤ records
   pub room : areaSize tapeQ ≤ work
 

@@ -11,7 +11,7 @@ use Rattle.refusals.specs.Numbers.{Told, refusedBy, Check, _if_, firstOf}
 use Rattle.lists.specs.Tables.{tab}
 use Rattle.published.specs.Picture.{areaSize}
 use Rattle.voting.specs.Voting.{cleared}
-use Rattle.layout.specs.Layout.{tapeQ, rowCount, isBlock}
+use Rattle.layout.specs.Layout.{tapeQ, messageBytes, rowCount, isBlock}
 use Rattle.taperow.specs.declared.Record.{Record}
 use Rattle.taperow.specs.Reading.{rowRecord}
 use Rattle.verifying.specs.declared.Verified.{Verified}
@@ -42,7 +42,7 @@ allRecords block payload = tab (rowCount block) (rowRecord block payload)
 unfoldable pub checksFor : List ℕ → List ℕ → ℕ → ℕ → List Check
 checksFor block payload records work =
     (BadBlock if not (isBlock block))
-    ∷ (WrongPayload if not (eqb (length payload) (20 * rowCount block)))
+    ∷ (WrongPayload if not (eqb (length payload) (messageBytes * rowCount block)))
     ∷ (FewRecords if ltb records (rowCount block))
     ∷ (ShortWork if ltb work (areaSize tapeQ))
     ∷ []

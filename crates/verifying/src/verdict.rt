@@ -4,6 +4,8 @@ ghost use Prim.Native.Nat.{_+_, _<_, _^_};
 ghost use Rattle.layout.specs.Layout.{rowCount};
 ghost use Rattle.verifying.specs.Inside.{verdictBefore, rowsToRead, nextVerdict, totalOf};
 use crate::Verified;
+use layout::MESSAGE_BYTES;
+use layout::TAPE_AREA;
 use layout::is_block;
 use layout::row_count;
 use refusals::Refusal;
@@ -17,13 +19,13 @@ pub fn verdict_before(block: &[u8], payload: &[u8], records: usize, work: usize)
         return Verified::Refused(Refusal::BadBlock);
     }
     let rows = row_count(block);
-    if payload.len() != 20 * rows {
+    if payload.len() != MESSAGE_BYTES * rows {
         return Verified::Refused(Refusal::WrongPayload);
     }
     if records < rows {
         return Verified::Refused(Refusal::FewRecords);
     }
-    if work < 1472 {
+    if work < TAPE_AREA {
         return Verified::Refused(Refusal::ShortWork);
     }
     Verified::Copied(0)

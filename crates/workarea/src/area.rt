@@ -76,8 +76,8 @@ fn run_of(q: usize, to: Row, from: Row, height: usize, shift: usize) -> Run
     }
 }
 
-// Adds to a row what `products` is the table row of, times x^shift, times the first `height` symbols of another row, or subtracts it
-// where `minus` is true.
+// Adds to a row what `products` is the table row of, times x^shift, times the first `height` symbols of another row; or subtracts
+// it where `minus` is true.
 pub fn change_row(
     work: &mut [u8],
     q: usize,

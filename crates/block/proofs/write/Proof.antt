@@ -9,6 +9,7 @@ use denote.Ref.{now}
 use borrow.Author.Needs.{needs}
 use borrow.Author.Tests.{not-false, lt-ltb, le-ltb}
 use Rattle.refusals.proofs.Checks.{here, later, clear, done}
+use Rattle.layout.specs.Layout.{rowBytes, messageBytes, headerBytes}
 use Rattle.block.specs.Writing.{rowsFilled, isPayload, writeChecks}
 use Rattle.block.proofs.CodeRows.{Fills, fills}
 use Rattle.block.proofs.Writes.{written, header-written, row-written, all-written, refusing, writing}
@@ -17,7 +18,7 @@ use Rattle.block.proofs.write.Tie as tie
 
 abbrev Inv-loop : tie.InvT-loop
 Inv-loop payload block₀ rows size r₀ block r =
-    (r ≤ rows) × (length block ≡ length block₀) × (block ≡ written payload (8 + 32 * r) block₀)
+    (r ≤ rows) × (length block ≡ length block₀) × (block ≡ written payload (headerBytes + rowBytes * r) block₀)
 
 abbrev μ-loop : tie.MeasureT-loop
 μ-loop payload block₀ rows size r₀ block r = rows - r
@@ -93,7 +94,7 @@ returns-3 c =
     let bytes = fit .before .before .before .before in
     let start = bytes .before .args in
     let payload = now (start .payload) in
-    let all : l .loop .r ≡ length payload / 20 = omega arith in
+    let all : l .loop .r ≡ length payload / messageBytes = omega arith in
     writing payload (now (start .block)) (right (fit .before)) (λ i. bytes .shared-slice-known .given i .fits)
     (clear (ap not (right (fit .before))) (clear (le-ltb _ _ (fit .if2 .left)) done))
     (l .loop .inv .2 ∙ (rw all (all-written payload (now (start .block)) _ (header .put-header .ensures))))

@@ -8,6 +8,7 @@ use borrow.Author.Needs.{needs}
 use Rattle.algebra.specs.Functions.{Fn}
 use Rattle.lists.specs.Tables.{put}
 use Rattle.lists.proofs.Put.{put-none, put-next}
+use Rattle.symbols.specs.Sizes.{mostQ, mostSymbols}
 use Rattle.symbols.specs.Rule.{symbols}
 use Rattle.symbols.proofs.Bytes.{known-high}
 use Rattle.evaluation.specs.Stages.{HoldsFunction, columnNumber}
@@ -17,7 +18,7 @@ use Rattle.evaluation.proofs.column.Tie as tie
 
 abbrev Inv-loop : tie.InvT-loop
 Inv-loop table q x places width products values₀ j₀ values j =
-    (j ≤ q) × ((f : Fn (symbols q) q) → HoldsFunction q f places → values ≡ put (replicate 4 0) 0 j (columnNumber q f width x))
+    (j ≤ q) × ((f : Fn (symbols q) q) → HoldsFunction q f places → values ≡ put (replicate mostQ 0) 0 j (columnNumber q f width x))
 
 abbrev μ-loop : tie.MeasureT-loop
 μ-loop table q x places width products values₀ j₀ values j = q - j
@@ -64,12 +65,12 @@ loop-again c =
     let q = start .args .q in
     let j = at .loop .j in
     let width = start .args .width in
-    let n : j * 16 + width - j * 16 ≡ width = omega arith in (
+    let n : j * mostSymbols + width - j * mostSymbols ≡ width = omega arith in (
       search needs,
       λ f held. rw (at .loop .inv .1 f held)
-          (put-next (replicate 4 0) j (columnNumber q f width (start .args .x)) (c .value-in .result)
+          (put-next (replicate mostQ 0) j (columnNumber q f width (start .args .x)) (c .value-in .result)
           (column-value q (start .pre .0) (at .before .products-in .result) (c .value-in .result) f (now (start .args .places))
-          (start .args .x) j (j * 16 + width - j * 16)
+          (start .args .x) j (j * mostSymbols + width - j * mostSymbols)
           (omega arith) (omega arith) (start .pre .3) held (at .before .products-in .ensures) (c .value-in .ensures)
           ∙ ap (λ m. columnNumber q f m (start .args .x) j) n)),
     )
@@ -79,7 +80,7 @@ returns c =
     let at = c .before in
     let args = at .before .before .before .before .args in
     let end : at .loop .j ≡ args .q = omega arith in
-    λ f held. at .loop .inv .1 f held ∙ ap (λ n. put (replicate 4 0) 0 n (columnNumber (args .q) f (args .width) (args .x))) end
+    λ f held. at .loop .inv .1 f held ∙ ap (λ n. put (replicate mostQ 0) 0 n (columnNumber (args .q) f (args .width) (args .x))) end
 
 pub column-spec : {M : Type 1} → statement M
 column-spec =

@@ -7,6 +7,7 @@ use native.Mathlib.Omega.{arith}
 use lib.ListN.{length, length-set}
 use denote.Ref.{now}
 use borrow.Author.Needs.{needs}
+use Rattle.symbols.specs.Sizes.{mostSymbols, mostPoints}
 use Rattle.algebra.specs.Weights.{nongap}
 use Rattle.curve.specs.Ranks.{rank}
 use Rattle.curve.proofs.Sizes.{count-small}
@@ -19,7 +20,7 @@ use Rattle.evaluation.proofs.spread.Tie as tie
 
 abbrev Inv-loop : tie.InvT-loop
 Inv-loop q u message places₀ taken₀ s₀ places taken s =
-    (s ≤ u + 1) × (taken ≡ rank q s) × (length places ≡ 64) × IsSpread q s message places
+    (s ≤ u + 1) × (taken ≡ rank q s) × (length places ≡ mostPoints) × IsSpread q s message places
 
 abbrev μ-loop : tie.MeasureT-loop
 μ-loop q u message places₀ taken₀ s₀ places taken s = u + 1 - s
@@ -48,7 +49,7 @@ here c =
 
 -- they are within the places
 fits : (c : tie.After-shared-slice-known2 Inv-loop μ-loop)
-    → c .before .before .monomial .given .0 .1 .0 * 16 + c .before .before .monomial .given .0 .0 < 64
+    → c .before .before .monomial .given .0 .1 .0 * mostSymbols + c .before .before .monomial .given .0 .0 < mostPoints
 fits c =
     let at = c .before .before .before .before .before .before in
     let start = at .before .before in

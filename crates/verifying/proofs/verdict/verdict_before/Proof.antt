@@ -6,7 +6,7 @@ use Prim.Native.Nat.{_*_}
 use lib.ListN.{length}
 use denote.Ref.{now}
 use borrow.Author.Tests.{not-true, not-false}
-use Rattle.layout.specs.Layout.{rowCount, isBlock}
+use Rattle.layout.specs.Layout.{messageBytes, rowCount, isBlock}
 use Rattle.taperow.proofs.Tape.{area-is}
 use Rattle.verifying.proofs.Start.{before-9, before-10, before-11, before-6, before-none}
 use borrow.Author.Needs.{needs}
@@ -23,7 +23,7 @@ is-good c = sym (c .before .is-block .ensures) ∙ not-false _ (c .if1 .left)
 -- and the second
 is-long : (c : tie.Else2)
     → length (now (c .before .before .before .before .before .before .args .payload))
-    ≡ 20 * rowCount (now (c .before .before .before .before .before .before .args .block))
+    ≡ messageBytes * rowCount (now (c .before .before .before .before .before .before .args .block))
 is-long c = rw (c .before .row-count .ensures .0) at (c .if2 .left)
 
 returns : tie.Need-returns

@@ -28,7 +28,7 @@ use denote.Enum.Laws as EL
 use denote.Triple.Walked.{says}
 use Rattle.published.specs.Picture.{areaSize}
 use Rattle.verifying.specs.declared.Verified.{Verified}
-use Rattle.layout.specs.Layout.{tapeQ}
+use Rattle.layout.specs.Layout.{rowBytes, messageBytes, headerBytes, tapeQ}
 use Rattle.verifying.specs.Inside.{totalOf}
 use Rattle.taperow.proofs.Record as T
 use Rattle.taperow.proofs.Record.Laws as T′
@@ -109,7 +109,7 @@ module _ {M : Type 1} (𝓤 : URA M) (H : Heap 𝓤) (A : Atoms 𝓤) (W : Given
   Lent r ν δ = ‵ (OB p) ∷ ‵ (OP p) ∷ ‵ (MutSlice (named 2) (ν ∷ []) u8 .own (xw p δ (ws p r)) (sw p ∷ [])) ∷ ‵ (flft κ₀ q₀)
       ∷ ‵ (flft κ₁ q₁) ∷ ‵ (flft (ν ∷ []) fullShare) ∷ []
 
-  pub goes-row : (r ν : ℕ) (δ : GName) → r < 2 ^ 64 → (40 + 32 * r ≤ length (now B)) × (20 + 20 * r ≤ length (now P))
+  pub goes-row : (r ν : ℕ) (δ : GName) → r < 2 ^ 64 → (headerBytes + rowBytes + rowBytes * r ≤ length (now B)) × (messageBytes + messageBytes * r ≤ length (now P))
       × (areaSize tapeQ ≤ length (ws p r))
       → ent 𝓤 (⋆ 𝓤 H A (Lent r ν δ))
       (sep 𝓤 (Row 𝓤 H A mem run .pre (to-row r ν δ)) (sep 𝓤 (sem 𝓤 H A (OB p)) (sem 𝓤 H A (OP p))))

@@ -15,7 +15,7 @@ use mir.Val.{Val}
 use denote.Laws.{Is}
 use denote.Ref.{now}
 use Rattle.published.specs.Picture.{areaSize}
-use Rattle.layout.specs.Layout.{tapeQ}
+use Rattle.layout.specs.Layout.{rowBytes, messageBytes, headerBytes, tapeQ}
 use Rattle.verifying.proofs.Verified as S
 use Rattle.lists.proofs.Filled.{fill-length}
 use Rattle.verifying.proofs.Rounds.{work-kept, Ready, ready, rows-fit}
@@ -53,7 +53,7 @@ module _ (p : Passed) where
     kept = work-kept (now B) (now P) (length ys₀) ws₀ k (i .1 .0)
 
     -- what reading the row asks for
-    pub asked : Holds (ltb k (n p)) → (40 + 32 * k ≤ length (now B)) × (20 + 20 * k ≤ length (now P))
+    pub asked : Holds (ltb k (n p)) → (headerBytes + rowBytes + rowBytes * k ≤ length (now B)) × (messageBytes + messageBytes * k ≤ length (now P))
         × (areaSize tapeQ ≤ length (ws p k))
     asked less = (here less .row, here less .message, omega (arith, here less .room, kept))
 
