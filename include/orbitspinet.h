@@ -125,7 +125,8 @@ int64_t tape_decode(uint64_t q, uint64_t u, const uint8_t *row, size_t row_len, 
  * Tells which row goes on from here after a decoding, and how much of it. decoded is what tape_decode answered, and is taken
  * as said: a count means the corrected row, a negative number the received one, and *from becomes TAPE_PASS_CORRECTED or
  * TAPE_PASS_RECEIVED. What goes on are the first symbols of that area, where they stand; nothing is copied.
- * Answers how many they are: n, or 0 where q is not 2 or 4 or that area is shorter than n. Refuses nothing.
+ * Answers how many they are: n, or 0 where q is not 2 or 4 or that area is shorter than n. Refuses nothing. Each area may
+ * have any length; the 8 bytes of *from are in neither.
  */
 int64_t tape_pass_on(uint64_t q, int64_t decoded, const uint8_t *received, size_t received_len, const uint8_t *corrected,
                      size_t corrected_len, uint64_t *from);

@@ -11,6 +11,8 @@ const ENOUGH: usize = 3;
 #[derive(Default)]
 struct Found {
     differences: Vec<String>,
+    /// One of its harnesses has ended, and can be asked no more.
+    has_ended: bool,
     broke_down: bool,
 }
 
@@ -45,14 +47,18 @@ impl Program {
         self.found.lock().expect("no thread panicked")
     }
 
-    pub fn add_difference(&self, text: String) {
-        self.found().differences.push(format!("DIFFERENCE {text}"));
+    /// A harness whose call touched what it may not has ended after it said so.
+    pub fn add_difference(&self, text: String, has_ended: bool) {
+        let mut found = self.found();
+        found.differences.push(format!("DIFFERENCE {text}"));
+        found.has_ended |= has_ended;
     }
 
     /// No answer came: no byte of it could be compared.
     pub fn add_breakdown(&self, text: String) {
         let mut found = self.found();
         found.differences.push(format!("BROKE DOWN {text}"));
+        found.has_ended = true;
         found.broke_down = true;
     }
 
@@ -64,10 +70,10 @@ impl Program {
         self.differences() > 0
     }
 
-    /// Whether enough was found of it; one that broke down has no harness to ask.
+    /// Whether enough was found of it, or it cannot be asked.
     pub fn is_given_up(&self) -> bool {
         let found = self.found();
-        found.differences.len() >= self.enough || found.broke_down
+        found.differences.len() >= self.enough || found.has_ended
     }
 
     pub fn print_found(&self) {

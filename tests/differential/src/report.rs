@@ -20,10 +20,14 @@ pub fn result_of(bytes: &[u8]) -> i64 {
     i64::from_le_bytes(result)
 }
 
+pub fn is_fault(answer: &[u8]) -> bool {
+    result_of(answer) == FAULT
+}
+
 /// The two results, or, if they agree, the first byte that differs.
 pub fn first_difference(call: &Call, body: &Body, expected: &[u8], answer: &[u8]) -> String {
     let (result, wanted) = (result_of(answer), result_of(expected));
-    if result == FAULT {
+    if is_fault(answer) {
         return format!("it touches what it may not, and the result is to be {wanted}");
     }
     if result != wanted {

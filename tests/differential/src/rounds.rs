@@ -81,13 +81,13 @@ pub fn run(seed: u64, stride: usize, program: &Program) -> usize {
     for (code, places) in codes.into_iter().filter(within).step_by(stride) {
         if row_round(&code, places, &mut random, program) == Some(false) {
             let (q, u) = (code.q(), code.u);
-            program.add_difference(format!("in a round, q {q}, u {u}, {places} places"));
+            program.add_difference(format!("in a round, q {q}, u {u}, {places} places"), false);
         }
         count += 1;
     }
     for rows in [1, 2, 3, 17, 100].into_iter().step_by(stride) {
         if block_round(rows, &mut random, program) == Some(false) {
-            program.add_difference(format!("in a round of a block of {rows} rows"));
+            program.add_difference(format!("in a round of a block of {rows} rows"), false);
         }
         count += 1;
     }

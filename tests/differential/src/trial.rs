@@ -5,7 +5,8 @@ use crate::expected::expected;
 use crate::groups::Group;
 use crate::harness::TOGETHER;
 use crate::program::Program;
-use crate::{report, THREADS};
+use crate::report::{self, is_fault};
+use crate::THREADS;
 use reference::samples::Random;
 use std::sync::atomic::{AtomicUsize, Ordering};
 
@@ -96,7 +97,7 @@ impl Trial<'_> {
                 Ok(answer) => {
                     let call = &made.case.call;
                     let what = report::first_difference(call, &made.body, &made.wanted, &answer);
-                    program.add_difference(self.in_words(made, &what));
+                    program.add_difference(self.in_words(made, &what), is_fault(&answer));
                 }
                 Err(_) if program.is_given_up() => return,
                 Err(error) => {

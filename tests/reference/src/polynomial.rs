@@ -5,7 +5,7 @@
 
 use crate::curve::{weight, Point};
 use crate::field::Field;
-use std::collections::BTreeMap;
+use std::collections::btree_map::{BTreeMap, Entry};
 
 /// Where a monomial stands. The upper part is the later one, so it wins ties of weight.
 #[derive(Clone, Copy, Debug, PartialEq, Eq, PartialOrd, Ord)]
@@ -124,11 +124,17 @@ impl Polynomial {
             );
             return;
         }
-        let total = self.field.sum(self.coefficient(monomial), symbol);
-        if total == 0 {
-            self.terms.remove(&monomial);
-        } else {
-            self.terms.insert(monomial, total);
+        // The place is looked for once: most of the reference's time goes here.
+        match self.terms.entry(monomial) {
+            Entry::Vacant(place) => {
+                if symbol != 0 {
+                    place.insert(symbol);
+                }
+            }
+            Entry::Occupied(mut place) => match self.field.sum(*place.get(), symbol) {
+                0 => drop(place.remove()),
+                total => *place.get_mut() = total,
+            },
         }
     }
 
