@@ -1,3 +1,3 @@
-mod Numbers
+mod Searching
 pub mod Written
 pub mod Meaning

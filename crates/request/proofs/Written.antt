@@ -9,7 +9,7 @@ use lib.Seq.{take-all}
 use Rattle.lines.specs.Text.{lastDigits, digits, spaced, Wrote}
 use Rattle.lines.proofs.Digits.{length-digits, length-spaced}
 use Rattle.lines.proofs.Writing.{wrote-more}
-use Rattle.request.specs.Request.{line, request}
+use Rattle.asking.specs.Request.{line, request}
 
 -- the line "q u" in its four pieces
 code-pieces : (q u : ℕ) → digits q ++ (32 ∷ []) ++ digits u ++ (10 ∷ []) ≡ line (q ∷ u ∷ [])

@@ -8,7 +8,7 @@ use Rattle.request.specs.declared.Found.{Found}
 use Rattle.request.specs.declared.Found.the-variants.{Number, End}
 use Rattle.request.specs.declared.Reading.{Reading}
 use Rattle.request.specs.declared.Reading.the-variants.{Asks, Nothing}
-use Rattle.request.specs.Request.{Said, asks, nothing, numbersFrom}
+use Rattle.asking.specs.Request.{Said, asks, nothing, numbersFrom}
 
 -- the first number that ends in a text from a place on: what was read, and the text after it has the numbers that are left
 pub record FoundAt (text : List ℕ) (from value next : ℕ) : Type 0 where

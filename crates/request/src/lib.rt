@@ -9,10 +9,10 @@ ghost use mathlib.Core.Path.{_≡_};
 ghost use Prim.Native.Nat.{_+_, _*_, _-_, _≤_, _<_};
 ghost use lib.ListN.{length, take, drop};
 ghost use Rattle.lines.specs.Text.{Wrote};
-ghost use Rattle.request.specs.Request.{line, request, endsNumber, numbersFrom, asByte, reading, Means};
+ghost use Rattle.asking.specs.Request.{line, request, endsNumber, numbersFrom, asByte, reading, Means};
 ghost use Rattle.lists.specs.Same.{sameList};
 ghost use Rattle.request.specs.Reader.{saying, countIn, FoundIn};
-ghost use Rattle.request.specs.Request.{grown as Request·grown};
+ghost use Rattle.asking.specs.Request.{grown as Request·grown};
 
 // What a text asks: q, u and how many numbers the row has; or nothing that is taken.
 pub enum Reading {

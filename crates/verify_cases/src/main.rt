@@ -26,6 +26,9 @@ const HEADER: [u8; 8] = [0, 0, 0, 36, 1, 45, 0, 1];
 
 const ENOUGH: Lengths = Lengths(40, 20, 2, 1472);
 
+// The header of 1,024 rows.
+const MOST_ROWS: [u8; 8] = [0, 0, 128, 4, 1, 45, 4, 0];
+
 // Verifies with the first bytes of each, so many as are to be lent.
 fn cut(
     name: &[u8],
@@ -51,19 +54,23 @@ fn cut(
     );
 }
 
+// Writes a header over the first bytes of a block.
+fn head(block: &mut [u8], header: [u8; 8])
+    requires { ⌜ 8 ≤ length (now block) ⌝ }
+{
+    let mut i = 0;
+    while i < 8 {
+        block[i] = header[i];
+        i += 1;
+    }
+}
+
 // A case whose symbols are all 0, under a header that may be wrong.
 fn zeros(name: &[u8], header: [u8; 8], lengths: Lengths)
     requires { ⌜ (lengths .0 ≤ 32808) × (lengths .1 ≤ 20500) × (lengths .2 ≤ 2050) × (lengths .3 ≤ 1472) ⌝ }
 {
     let mut block = [0u8; 32808];
-    block[0] = header[0];
-    block[1] = header[1];
-    block[2] = header[2];
-    block[3] = header[3];
-    block[4] = header[4];
-    block[5] = header[5];
-    block[6] = header[6];
-    block[7] = header[7];
+    head(&mut block, header);
     let payload = [0u8; 20500];
     let mut records = [0u8; 2050];
     let mut work = [0u8; 1472];
@@ -115,7 +122,7 @@ fn many_rows() {
     );
     zeros(
         b"1,024 rows: ",
-        [0, 0, 128, 4, 1, 45, 4, 0],
+        MOST_ROWS,
         Lengths(32776, 20480, 2048, 1472),
     );
 }
@@ -134,11 +141,7 @@ fn damage(block: &mut [u8])
 // The most rows, with a symbol changed in 960 of them.
 fn damaged() {
     let mut block = [0u8; 32776];
-    block[2] = 128;
-    block[3] = 4;
-    block[4] = 1;
-    block[5] = 45;
-    block[6] = 4;
+    head(&mut block, MOST_ROWS);
     damage(&mut block);
     let payload = [0u8; 20480];
     let mut records = [0u8; 2048];

@@ -1,7 +1,7 @@
 -- `request::ends_number` meets its contract.
 -- Assumes nothing.
 use borrow.Author.Tests.{eq-eqb, ne-eqb}
-use Rattle.request.specs.Request.{endsNumber}
+use Rattle.asking.specs.Request.{endsNumber}
 use Rattle.request.proofs.ends_number.Statement.{statement}
 use Rattle.request.proofs.ends_number.Tie as tie
 

@@ -3,7 +3,7 @@
 use mathlib.Core.Path.{ap}
 use Prim.Native.Nat.{ℕ, _+_, _*_, _%_}
 use native.Mathlib.Omega.{arith}
-use Rattle.request.specs.Request.{grown}
+use Rattle.asking.specs.Request.{grown}
 use borrow.Author.Needs.{needs}
 use Rattle.request.proofs.grown.Statement.{statement}
 use Rattle.request.proofs.grown.Tie as tie

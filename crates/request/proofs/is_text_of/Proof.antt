@@ -6,7 +6,7 @@ use native.Mathlib.Omega.{arith}
 use lib.ListN.{length, take}
 use lib.Seq.{length-take-le}
 use Rattle.lines.proofs.Writing.{wrote-front, wrote-within}
-use Rattle.request.specs.Request.{line}
+use Rattle.asking.specs.Request.{line}
 use Rattle.request.proofs.Written.{length-first, length-line, wrote-request}
 use Rattle.lists.proofs.Same.{tells-same}
 use borrow.Author.Needs.{needs}

@@ -7,9 +7,9 @@ use native.Mathlib.Omega.{arith}
 use borrow.Author.Needs.{needs}
 use mathlib.Core.Bool.{true, false}
 use lib.ListN.{length, getD, drop, drop-of-length-le}
-use Rattle.request.specs.Request.{endsNumber, numbersFrom}
+use Rattle.asking.specs.Request.{endsNumber, numbersFrom}
 use Rattle.request.specs.Reader.{FoundIn}
-use Rattle.request.proofs.Numbers.{numbers-end-at, numbers-go-at}
+use Rattle.asking.proofs.Numbers.{numbers-end-at, numbers-go-at}
 use Rattle.request.proofs.number_at.Statement.{statement}
 use Rattle.request.proofs.number_at.Tie as tie
 

@@ -7,10 +7,10 @@ use Prim.Native.Nat.{ℕ}
 use native.Mathlib.Omega.{arith}
 use lib.ListN.{take, drop}
 use lib.Seq.{length-take-le}
-use Rattle.request.specs.Request.{asks, numbersFrom, ifTaken, reading}
+use Rattle.asking.specs.Request.{asks, numbersFrom, ifTaken, reading}
 use Rattle.request.specs.Reader.{saying, FoundAt}
-use Rattle.request.proofs.Numbers.{found-number, found-end}
-use Rattle.request.proofs.Meaning.{answers, reads-long, reads-none, reads-empty, reads-row}
+use Rattle.request.proofs.Searching.{found-number, found-end}
+use Rattle.asking.proofs.Meaning.{answers, reads-long, reads-none, reads-empty, reads-row}
 use borrow.Author.Needs.{needs}
 use Rattle.request.proofs.read_request.Statement.{statement}
 use Rattle.request.proofs.read_request.Tie as tie

@@ -7,9 +7,10 @@ use Prim.Native.Nat.{_+_, _-_, _≤_, _<_}
 use native.Mathlib.Omega.{arith}
 use borrow.Author.Needs.{needs}
 use lib.ListN.{length, take, drop, length-set}
-use Rattle.request.specs.Request.{numbersFrom, asByte}
+use Rattle.asking.specs.Request.{numbersFrom, asByte}
 use Rattle.request.specs.Reader.{FoundAt}
-use Rattle.request.proofs.Numbers.{row-more, row-whole, numbers-past, found-number, found-end}
+use Rattle.asking.proofs.Numbers.{row-more, row-whole, numbers-past}
+use Rattle.request.proofs.Searching.{found-number, found-end}
 use Rattle.request.proofs.read_row.Statement.{statement}
 use Rattle.request.proofs.read_row.Tie as tie
 

@@ -1,6 +1,6 @@
 -- Laws of the numbers that are read from a text: byte by byte, and those of a text that is written from numbers.
 -- Assumes nothing.
-use mathlib.Core.Path.{_≡_, refl, ap, sym, _∙_, subst}
+use mathlib.Core.Path.{_≡_, refl, ap, sym, _∙_}
 use mathlib.Core.Bool.{Bool, true, false}
 use mathlib.Core.List.{List, [], _∷_, _++_, map, append-assoc, append-nil}
 use Prim.Native.Nat.{ℕ, zero, suc, _+_, _*_, _-_, _/_, _%_, _≤_, _<_}
@@ -13,10 +13,7 @@ use lib.ListN.{length, getD, take, drop, set, drop-of-length-le}
 use lib.Seq.{drop-cons, take-suc-set}
 use Rattle.lines.specs.Text.{digits, spaced}
 use Rattle.lines.proofs.Digits.{digits-small, digits-large}
-use Rattle.request.specs.Request.{line, request, endsNumber, grown, numbersFrom, asByte}
-use Rattle.request.specs.Reader.{FoundAt, FoundIn}
-use Rattle.request.specs.declared.Found.{Found}
-use Rattle.request.specs.declared.Found.the-variants.{Number, End}
+use Rattle.asking.specs.Request.{line, request, endsNumber, grown, numbersFrom, asByte}
 
 -- what the definition takes by its test
 byTest : ℕ → ℕ → List ℕ → Bool → List ℕ
@@ -158,12 +155,3 @@ row-whole text row from at count so-far none =
 pub numbers-past : (text : List ℕ) (at : ℕ) → length text ≤ at → numbersFrom 0 (drop at text) ≡ []
 unfolding numbersFrom
 numbers-past text at h = ap (numbersFrom 0) (drop-of-length-le text h)
-
--- what a search says where it answers a number, and where it answers that there is none
-pub found-number : (text : List ℕ) (from : ℕ) {r : Found} {value next : ℕ} → r ≡ Number value next → FoundIn text from r → FoundAt text from value next
-unfolding FoundIn
-found-number text from e found = subst (FoundIn text from) e found
-
-pub found-end : (text : List ℕ) (from : ℕ) {r : Found} → r ≡ End → FoundIn text from r → numbersFrom 0 (drop from text) ≡ []
-unfolding FoundIn
-found-end text from e found = subst (FoundIn text from) e found
