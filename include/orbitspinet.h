@@ -13,12 +13,13 @@
  * the code q = 4, u = 45.
  *
  * Each area is lent as a pointer and the number of its bytes. It must hold that many bytes, and an area that is written to
- * may share no byte with another area of the call; nor may the 8 bytes of *at. No pointer may be null, also where the
- * number is 0. Nothing else is asked: every call ends and answers for all numbers and all bytes. What an area that is
- * written to held before does not show in the answer. Nothing is kept from one call to the next, so calls over different
- * areas may run at once.
+ * may share no byte with another area of the call; nor may the 8 bytes of *at or of *from. No pointer may be null, also
+ * where the number is 0. Nothing else is asked: every call ends and answers for all numbers and all bytes. What an area
+ * that is written to held before does not show in the answer. Nothing is kept from one call to the next, so calls over
+ * different areas may run at once.
  *
- * Of what is read the length must be exact; of what is written to it may be more than is needed. Each call says how much.
+ * Of what is read the length must be exact, but for the rows of tape_pass_on; of what is written to it may be more than is
+ * needed. Each call says how much.
  *
  * Every call answers a number. It is negative exactly where the call is refused: minus one of enum tape_refusal, the first
  * in the order that the call names. A refused call has written nothing, except that TAPE_BEYOND_REACH leaves its part of
