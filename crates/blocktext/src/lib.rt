@@ -1,4 +1,6 @@
 // What blockcheck prints: a line for each row with something to tell, and the verdict.
+use layout::MESSAGE_BYTES;
+use layout::TAPE_AREA;
 use refusals::number_of;
 use rowlines::put_line;
 use rowlines::put_rows;
@@ -30,7 +32,7 @@ fn rows_told(verdict: Verified, payload: usize) -> usize
     ensures { λ r. ⌜ r ≡ rowsTold verdict payload ⌝ }
 {
     let Verified::Refused(_) = verdict else {
-        return payload / 20;
+        return payload / MESSAGE_BYTES;
     };
     0
 }
@@ -41,7 +43,7 @@ pub fn check_text(block: &[u8], payload: &[u8], out: &mut [u8; 32768]) -> usize
     ensures within { λ r. ⌜ Counts r (now (out .exit)) ⌝ }
 {
     let mut records = [0u8; 2048];
-    let mut work = [0u8; 1472];
+    let mut work = [0u8; TAPE_AREA];
     let verdict = verify_bytes(block, payload, &mut records, &mut work);
     let rows = rows_told(verdict, payload.len());
     let end = put_rows(out, &records, rows);

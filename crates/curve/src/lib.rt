@@ -1,5 +1,8 @@
 // Weights, codes and points of the curve y^q + y = x^(q+1).
 use refusals::Refusal;
+use symbols::MOST_Q;
+use symbols::MOST_SYMBOLS;
+use symbols::SYMBOL_PLACES;
 ghost use mathlib.Core.Path.{_≡_};
 ghost use Prim.Native.Nat.{ℕ, _+_, _/_, _%_, _<_};
 ghost use Rattle.algebra.specs.Symbols.{power};
@@ -34,9 +37,9 @@ pub enum Named {
 }
 
 // The sets of ordinates: for q = 4 those above x⁵ = 0, 1, 6 and 7, for q = 2 those above x³ = 0 and 1.
-const SETS_4: [[u8; 4]; 4] = [[0, 1, 6, 7], [2, 3, 4, 5], [10, 11, 12, 13], [8, 9, 14, 15]];
+const SETS_4: [[u8; MOST_Q]; 4] = [[0, 1, 6, 7], [2, 3, 4, 5], [10, 11, 12, 13], [8, 9, 14, 15]];
 
-const SETS_2: [[u8; 4]; 2] = [[0, 1, 0, 0], [2, 3, 0, 0]];
+const SETS_2: [[u8; MOST_Q]; 2] = [[0, 1, 0, 0], [2, 3, 0, 0]];
 
 // The remainder by q. A divisor that the compiler does not know takes it many times as long as one that it does.
 pub fn remainder(q: usize, n: usize) -> usize
@@ -157,14 +160,14 @@ pub fn code_of(q: usize, u: usize) -> Named
 }
 
 // x^(q+1), by the products of x: it chooses the set of ordinates.
-fn norm(q: usize, products: [u8; 16]) -> u8
+fn norm(q: usize, products: [u8; MOST_SYMBOLS]) -> u8
     requires { ⌜ Known q ⌝ }
     ensures { λ r. ⌜ ((x : ℕ) → products ≡ productRow q x → r ≡ number q (power (symbols q) (symbol q x) (q + 1))) ⌝ }
 {
     let mut value = 1u8;
     let mut i = 0;
     while i < q + 1 {
-        value = products[(value % 16) as usize];
+        value = products[(value % SYMBOL_PLACES) as usize];
         i += 1;
     }
     value
@@ -184,7 +187,7 @@ fn set_place(norm: u8) -> usize
 
 // The ordinates above the x that has these products, rising: q of them, and zeros up to four. They are the set chosen by
 // x^(q+1), copied.
-pub fn ordinates(q: usize, products: [u8; 16]) -> [u8; 4]
+pub fn ordinates(q: usize, products: [u8; MOST_SYMBOLS]) -> [u8; MOST_Q]
     requires { ⌜ Known q ⌝ }
     ensures { λ r. ⌜ ((x : ℕ) → products ≡ productRow q x → r ≡ ordinatesAbove q x) ⌝ }
 {
