@@ -6,9 +6,8 @@ use Prim.Native.Nat.{ℕ, _+_, _*_}
 use native.Mathlib.Omega.{arith}
 use lib.ListN.{take, drop}
 use lib.Seq.{drop-drop}
-use Rattle.lists.specs.Tables.{tab}
 use Rattle.lists.proofs.Tables.{tab-same}
-use Rattle.packing.specs.Packing.{symbolIn, unpacked}
+use Rattle.packing.specs.Packing.{unpacked}
 use Rattle.packing.proofs.Unpacked.{symbol-of-part}
 use Rattle.layout.specs.Layout.{rowLength, messageLength, symbolPlace, blockRow, payloadRow}
 

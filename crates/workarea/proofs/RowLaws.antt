@@ -15,7 +15,7 @@ use Rattle.algebra.proofs.Polynomials.{shift-add, shift-below}
 use Rattle.lists.specs.Tables.{put}
 use Rattle.lists.proofs.Put.{put-same, put-out, put-put, put-kept, put-parts, put-parts-back}
 use Rattle.symbols.specs.Sizes.{mostSymbols}
-use Rattle.symbols.specs.Rule.{Known, sumOf, differenceOf, symbols, number}
+use Rattle.symbols.specs.Rule.{Known, differenceOf, symbols, number}
 use Rattle.symbols.proofs.FieldLaws.{laws-of}
 use Rattle.symbols.proofs.Bytes.{number-of-sum, number-of-difference, number-of-negative}
 use Rattle.published.specs.Start.{width}
@@ -25,25 +25,19 @@ use Rattle.workarea.proofs.Bytes.{made-none}
 use Rattle.workarea.proofs.FirstSymbols.{first-in, first-out}
 
 module _ (q : ℕ) (known : Known q) where
-  infixl 65 _⊕_ _⊖_
+  infixl 65 _⊖_
   infixl 70 _⊗_
-  open Symbols (symbols q) using (K, 𝟘, _⊕_, _⊖_, _⊗_)
+  open Symbols (symbols q) using (K, 𝟘, _⊖_, _⊗_)
 
   -- an operation on symbols and the same on their numbers, by which a row and zeros make the row again
   pub record Operation (operation : K → K → K) (onNumbers : ℕ → ℕ → ℕ) : Type 0 where
     pub numbers : (a b : K) → onNumbers (number q a) (number q b) ≡ number q (operation a b)
     pub none : (a : K) → operation a 𝟘 ≡ a
 
-  sums : Operation _⊕_ (sumOf q)
-  sums = record { numbers = number-of-sum q known; none = add-zero (laws-of q known) }
-
-  differences : Operation _⊖_ (differenceOf q)
-  differences = record { numbers = number-of-difference q known; none = λ a. simp (ring, laws-of q known) }
-
   -- a sum, or a difference
   pub signed : (minus : Bool) → Operation (symbolsMade q minus) (numbersMade q minus)
-  signed true = differences
-  signed false = sums
+  signed true = record { numbers = number-of-difference q known; none = λ a. simp (ring, laws-of q known) }
+  signed false = record { numbers = number-of-sum q known; none = add-zero (laws-of q known) }
 
   module _ (operation : K → K → K) where
     -- a row and a multiple of a row

@@ -3,7 +3,6 @@ use mathlib.Core.Path.{sym}
 use Prim.Native.Nat.{_+_, _*_, _-_, _/_, _%_, _≤_, _<_}
 use native.Mathlib.Nat.{mul-le-mul-left, mod-lt, div-mul-le-self}
 use native.Mathlib.Omega.{arith}
-use borrow.Author.Needs.{needs}
 use Rattle.symbols.proofs.Bytes.{known-positive, known-high, square-small}
 use Rattle.curve.proofs.Sizes.{count-small}
 use Rattle.curve.proofs.Distances.{distance-far, distance-near}
