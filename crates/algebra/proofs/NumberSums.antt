@@ -1,8 +1,9 @@
--- Finite sums of numbers, for the degrees of all polynomials together: congruence, addition, one term apart, and the
--- same sum in another order.
+-- Finite sums of numbers, for the degrees of all polynomials together: congruence, order, addition, one term or a part of them
+-- apart, and the same sum in another order.
 use mathlib.Core.Path.{_≡_, refl, sym, ap, ap₂, _∙_}
 use mathlib.Core.Logic.{_≢_}
-use Prim.Native.Nat.{ℕ, zero, suc, _+_, _*_, _<_}
+use Prim.Native.Nat.{ℕ, zero, suc, _+_, _*_, _≤_, _<_}
+use native.Mathlib.Nat.{add-zero, add-suc}
 use native.Mathlib.Omega.{arith}
 use native.Mathlib.Decide.{ℕ-discrete}
 unfoldable pub use Rattle.algebra.specs.Totals.{total}
@@ -13,11 +14,35 @@ unfolding total
 total-cong zero h = refl
 total-cong (suc n) h = ap₂ _+_ (total-cong n (λ k hk. h k (omega arith))) (h n (omega arith))
 
+-- smaller terms have a smaller sum
+pub total-le : (n : ℕ) {f g : ℕ → ℕ} → ((k : ℕ) → k < n → f k ≤ g k) → total n f ≤ total n g
+unfolding total
+total-le zero h = omega arith
+total-le (suc n) h = omega (arith, total-le n (λ k hk. h k (omega arith)), h n (omega arith))
+
 -- sums are added term by term
 pub total-add : (n : ℕ) (f g : ℕ → ℕ) → total n (λ k. f k + g k) ≡ total n f + total n g
 unfolding total
 total-add zero f g = refl
 total-add (suc n) f g = omega (arith, total-add n f g)
+
+-- a factor of every term is one of the sum
+pub total-mul : (n c : ℕ) (f : ℕ → ℕ) → total n (λ k. c * f k) ≡ c * total n f
+unfolding total
+total-mul zero c f = omega arith
+total-mul (suc n) c f = omega (arith, total-mul n c f)
+
+-- the first m terms apart
+pub total-split : (m n : ℕ) (f : ℕ → ℕ) → total (m + n) f ≡ total m f + total n (λ k. f (m + k))
+unfolding total
+total-split m zero f = rw (add-zero m) (omega arith)
+total-split m (suc n) f = rw (add-suc m n) (omega (arith, total-split m n f))
+
+-- the first one apart
+pub total-head : (n : ℕ) (f : ℕ → ℕ) → total (suc n) f ≡ f 0 + total n (λ k. f (suc k))
+unfolding total
+total-head zero f = omega arith
+total-head (suc n) f = omega (arith, total-head n f)
 
 -- n terms that are the same
 pub total-const : (n c : ℕ) → total n (λ k. c) ≡ n * c

@@ -4,6 +4,7 @@ use mathlib.Core.Path.{_≡_, sym, ap, _∙_, _≡⟨_⟩_, _∎}
 use mathlib.Core.Logic.{_≢_}
 use mathlib.Core.Bool.{true, false}
 use Prim.Native.Nat.{ℕ}
+use native.Mathlib.Decide.{ℕ-discrete}
 use borrow.Author.Tests.{eqb-true, eqb-false, eq-eqb}
 use Rattle.algebra.specs.Symbols.{Symbols, Laws, same}
 
@@ -203,6 +204,13 @@ module _ {𝓢 : Symbols} {q : ℕ} (𝓛 : Laws 𝓢 q) where
   -- the number 0 is that of zero
   pub zero-of-number : (a : K) → number a ≡ 0 → a ≡ 𝟘
   zero-of-number a e = number-cancel a 𝟘 (e ∙ sym (𝓛 .number-zero))
+
+  -- whether two symbols are equal
+  pub decide : (a b : K) → Dec (a ≡ b)
+  decide a b = elim (ℕ-discrete (number a) (number b)) [
+    | yes e ↦ yes (number-cancel a b e)
+    | no ne ↦ no (λ e. ne (ap number e))
+  ]
 
   -- what the test `same` says
   pub same-true : (a b : K) → same 𝓢 a b ≡ true → a ≡ b

@@ -1,5 +1,5 @@
-pub mod Undamaged
 pub mod Judgements
+pub mod WithinReach
 pub mod ReadingBack
 pub mod DecodeChecks
 pub mod Promises

@@ -1,9 +1,10 @@
 -- What decoding promises, by its checks: a refusal leaves everything as it was, and where no check holds the full row decides.
--- The clause for undamaged rows follows from the equations.
+-- The clause for rows within reach follows from the equations, and that for undamaged rows from it.
 -- Assumes nothing.
 use mathlib.Core.Path.{_≡_, sym, ap, _∙_}
 use mathlib.Core.List.{List, _++_}
 use Prim.Native.Nat.{ℕ}
+use native.Mathlib.Omega.{arith}
 use lib.ListN.{take, drop}
 use lib.Seq.{take-at}
 use Rattle.refusals.specs.declared.Refusal.{Refusal}
@@ -13,14 +14,17 @@ use Rattle.encoder.specs.Encoding.{rowNumbers}
 use Rattle.published.specs.Picture.{areaSize}
 use Rattle.decoder.specs.declared.Decoded.{Decoded}
 use Rattle.decoder.specs.declared.Decoded.the-variants.{Accepted, Refused}
+use Rattle.judging.specs.Judging.{countOf}
 use Rattle.voting.specs.Voting.{voted, cleared}
 use Rattle.decoder.specs.Decoding.{decoded, decodeChecks, decodeAnswer, decodeWork, decodeMessage, decodeCorrected, ifAccepted}
 use Rattle.curve.specs.Given.{Received}
 use Rattle.decoder.specs.FullRows.{Room, messageAfter, correctedAfter}
 use Rattle.decoder.specs.Undamaged.{Undamaged}
+use Rattle.decoder.specs.WithinReach.{WithinReach}
 use Rattle.encoder.proofs.RowSymbols.{row-count}
 use Rattle.voting.proofs.Votes.{voted-count}
-use Rattle.decoder.proofs.ReadingBack.{row-received, voted-row, decoded-row}
+use Rattle.decoder.proofs.WithinReach.{voted-within, decoded-within}
+use Rattle.decoder.proofs.ReadingBack.{row-received, none-differs}
 use Rattle.decoder.proofs.DecodeChecks.{passes}
 
 module _ (q u : ℕ) (row work message corrected : List ℕ) where
@@ -78,14 +82,13 @@ module _ (q u : ℕ) (row work message corrected : List ℕ) where
       × ((message′ ≡ decodeMessage q u row work message corrected) × (corrected′ ≡ decodeCorrected q u row work message corrected)))
   kept P = (P .answer-is, (P .work-is, (P .message-is, P .corrected-is)))
 
-  -- an undamaged row is read back
-  pub undamaged-clause : {answer : Decoded} {work′ message′ corrected′ : List ℕ} → Promised answer work′ message′ corrected′
-      → Undamaged q u row work message corrected answer message′ corrected′
-  unfolding Undamaged messageAfter correctedAfter ifAccepted
-  undamaged-clause P sent M e room =
-      let input : Received q u row = rw e (row-received q u sent M) in
-      let votes : voted q u row ≡ sent = rw e (voted-row q u sent M) in
-      let accepted : decoded q u row ≡ Accepted 0 = rw e (decoded-row q u sent M) in
+  -- a row within reach of a message's row is read as that message
+  within-clause : {answer : Decoded} {work′ message′ corrected′ : List ℕ} → Promised answer work′ message′ corrected′
+      → WithinReach q u row work message corrected answer message′ corrected′
+  unfolding WithinReach messageAfter correctedAfter ifAccepted
+  within-clause P sent M input near room =
+      let votes : voted q u row ≡ sent = voted-within q u sent row M input near in
+      let accepted : decoded q u row ≡ Accepted (countOf q u sent row) = decoded-within q u sent row M input near in
       record {
         accepted = P .answer-is ∙ answered input room ∙ accepted;
         message-is =
@@ -98,10 +101,22 @@ module _ (q u : ℕ) (row work message corrected : List ℕ) where
             ∙ ap (rowNumbers q u) votes;
       }
 
+  -- so an undamaged one is read back: no place differs
+  undamaged-clause : {answer : Decoded} {work′ message′ corrected′ : List ℕ} → Promised answer work′ message′ corrected′
+      → Undamaged q u row work message corrected answer message′ corrected′
+  unfolding Undamaged WithinReach
+  undamaged-clause P sent M e room =
+      let input : Received q u row = rw e (row-received q u sent M) in
+      let none : countOf q u sent row ≡ 0 = rw e (none-differs q u sent M) in
+      let read = within-clause P sent M input (omega (arith, none)) room in
+      record { accepted = read .accepted ∙ ap Accepted none; message-is = read .message-is; corrected-is = read .corrected-is }
+
   -- the contract's clauses in a row
   pub told : {answer : Decoded} {work′ message′ corrected′ : List ℕ} → Promised answer work′ message′ corrected′
       → (answer ≡ decodeAnswer q u row work message corrected)
       × ((work′ ≡ decodeWork q u row work message corrected)
       × ((message′ ≡ decodeMessage q u row work message corrected)
-      × ((corrected′ ≡ decodeCorrected q u row work message corrected) × Undamaged q u row work message corrected answer message′ corrected′)))
-  told P = (P .answer-is, (P .work-is, (P .message-is, (P .corrected-is, undamaged-clause P))))
+      × ((corrected′ ≡ decodeCorrected q u row work message corrected)
+      × (Undamaged q u row work message corrected answer message′ corrected′
+      × WithinReach q u row work message corrected answer message′ corrected′))))
+  told P = (P .answer-is, (P .work-is, (P .message-is, (P .corrected-is, (undamaged-clause P, within-clause P)))))

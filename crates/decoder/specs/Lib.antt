@@ -1,3 +1,4 @@
 pub mod Decoding
 pub mod FullRows
 pub mod Undamaged
+pub mod WithinReach

@@ -10,6 +10,7 @@ ghost use Rattle.voting.specs.Voting.{cleared};
 ghost use Rattle.curve.specs.Given.{Valid, Received};
 ghost use Rattle.decoder.specs.FullRows.{Room, messageAfter, correctedAfter};
 ghost use Rattle.decoder.specs.Undamaged.{Undamaged};
+ghost use Rattle.decoder.specs.WithinReach.{WithinReach};
 
 // What decoding answers; an acceptance has the count of places that differ.
 pub enum Decoded {
@@ -96,6 +97,8 @@ pub fn decode(
     ensures corrected_left { λ _. ⌜ now (corrected .exit)
         ≡ decodeCorrected q u (now (row .entry)) (now (work .entry)) (now (message .entry)) (now (corrected .entry)) ⌝ }
     ensures undamaged { λ r. ⌜ Undamaged q u (now (row .entry)) (now (work .entry)) (now (message .entry)) (now (corrected .entry))
+        r (now (message .exit)) (now (corrected .exit)) ⌝ }
+    ensures within_reach { λ r. ⌜ WithinReach q u (now (row .entry)) (now (work .entry)) (now (message .entry)) (now (corrected .entry))
         r (now (message .exit)) (now (corrected .exit)) ⌝ }
 {
     match curve::code_of(q, u) {

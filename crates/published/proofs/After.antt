@@ -56,14 +56,14 @@ module _ (𝓢 : Symbols) (q : ℕ) (u : ℕ) (row : List (𝓢 .K)) where
   voteOf t = voteOn 𝓢 q u (weightOf t) (polysAfter t)
 
   -- one step more of the polynomials
-  polys-suc : (t : ℕ) → polysAfter (suc t)
+  pub polys-suc : (t : ℕ) → polysAfter (suc t)
       ≡ updated 𝓢 q (voteOf t) (pairings 𝓢 q u (weightOf t) (polysAfter t))
       (substituted 𝓢 q (weightOf t) (voteOf t) (polysAfter t)) q
   unfolding after step voteOn
   polys-suc t = refl
 
   -- and of the votes
-  votes-suc : (t : ℕ) → votesAfter (suc t) ≡ set (votesAfter t) (weightOf t) (voteOf t)
+  pub votes-suc : (t : ℕ) → votesAfter (suc t) ≡ set (votesAfter t) (weightOf t) (voteOf t)
   unfolding after step voteOn
   votes-suc t = refl
 
@@ -72,21 +72,23 @@ module _ {𝓢 : Symbols} {q : ℕ} (𝓛 : Laws 𝓢 q) (𝓐 : Arranged 𝓢 q
   infixl 70 _⊗_
   open Symbols 𝓢 using (K, 𝟘, _⊖_, _⊗_)
 
-  -- before the first step
+  -- before the first step nothing is taken away
+  pub left-none : (m : ℕ) → leftAfter 𝓢 q u row 0 m ≡ getD row m 𝟘
+  unfolding leftAfter after
+  left-none m = ap (λ a. getD row m 𝟘 ⊖ a) (given-none 𝓛 u (pointAt 𝓢 q m) (stepCount q)) ∙ simp (ring, 𝓛)
+
+  -- what holds there
   at-start : Reached 𝓢 q u row 0
-  unfolding after leftAfter
+  unfolding after
   at-start = record {
     led = let e : stepCount q - 0 ≡ stepCount q = omega arith in rw e (start-in-place 𝓛 row);
     long = length-replicate (stepCount q) 𝟘;
     fresh = λ s h. getD-replicate (stepCount q) s 𝟘 𝟘 (omega arith);
-    zeros = λ m p hm hp. rw (nothing-given m) (start-zero 𝓛 𝓐 row m hm p hp);
+    zeros = λ m p hm hp. rw (left-none m) (start-zero 𝓛 𝓐 row m hm p hp);
   }
-    where
-      nothing-given : (m : ℕ) → getD row m 𝟘 ⊖ given 𝓢 q u (replicate (stepCount q) 𝟘) (pointAt 𝓢 q m) ≡ getD row m 𝟘
-      nothing-given m = ap (λ a. getD row m 𝟘 ⊖ a) (given-none 𝓛 u (pointAt 𝓢 q m) (stepCount q)) ∙ simp (ring, 𝓛)
 
   -- a step takes the vote's term away from what is left
-  left-suc : (t m : ℕ) → t < stepCount q → Reached 𝓢 q u row t
+  pub left-suc : (t m : ℕ) → t < stepCount q → Reached 𝓢 q u row t
       → leftAfter 𝓢 q u row t m
       ⊖ voteOf 𝓢 q u row t ⊗ monomialAt 𝓢 q (weightOf 𝓢 q u row t) (pointAt 𝓢 q m .x) (pointAt 𝓢 q m .y)
       ≡ leftAfter 𝓢 q u row (suc t) m

@@ -5,7 +5,7 @@ use mathlib.Core.Logic.{_≢_}
 use mathlib.Core.Bool.{cond}
 use Prim.Native.Nat.{ℕ, zero, suc, _-_, _≤_, _<_}
 use native.Mathlib.Omega.{arith}
-use native.Mathlib.Decide.{ℕ-discrete}
+use native.Mathlib.Decide.{decLt, ℕ-discrete}
 use lib.Dec.{ltb}
 use borrow.Author.Tests.{lt-ltb, le-ltb}
 use Rattle.published.specs.Pairing.{best}
@@ -44,15 +44,41 @@ best-none score (suc n) none =
     let before = best-none score n (λ a l. none a (omega arith)) in
     rw (before, none (suc n) (omega arith) (omega arith), le-ltb (score 0) 0 (omega arith))
 
--- one symbol alone has one: that symbol
-pub best-only : (score : ℕ → ℕ) (n b : ℕ) → b ≤ n → 0 < score b → ((a : ℕ) → a ≤ n → a ≢ b → score a ≡ 0) → best score n ≡ b
+-- m is one of the symbols from 0 to n, and none of them has a larger score
+pub record Greatest (score : ℕ → ℕ) (n m : ℕ) : Type 0 where
+  pub among : m ≤ n
+  pub greatest : (b : ℕ) → b ≤ n → score b ≤ score m
+
+-- with one symbol more, the greatest so far or the new one is such a one
+greatest-next : (score : ℕ → ℕ) (n m a : ℕ) → Greatest score n m → a ≤ suc n → score m ≤ score a → score (suc n) ≤ score a
+    → Greatest score (suc n) a
+greatest-next score n m a before l old new = record {
+  among = l;
+  greatest = λ b h. elim (ℕ-discrete b (suc n)) [
+    | yes e ↦ rw e new
+    | no ne ↦ omega (arith, before .greatest b (omega arith))
+  ];
+}
+
+-- the best is such a one; which way ties go is not used
+pub best-greatest : (score : ℕ → ℕ) (n : ℕ) → Greatest score n (best score n)
 unfolding best
-best-only score zero b l some none = omega arith
-best-only score (suc n) b l some none = elim (ℕ-discrete b (suc n)) [
-  | yes e ↦
-      let before = best-none score n (λ a l ne. none a (omega arith) (omega arith)) in
-      rw (before, none 0 (omega arith) (omega arith), lt-ltb 0 (score (suc n)) (rw e at some)) (sym e)
-  | no ne ↦
-      let before = best-only score n b (omega arith) some (λ a l. none a (omega arith)) in
-      rw (before, none (suc n) (omega arith) (omega arith), le-ltb (score b) 0 (omega arith))
+best-greatest score zero = record { among = omega arith; greatest = λ b l. let e : b ≡ 0 = omega arith in rw e (omega arith) }
+best-greatest score (suc n) =
+    let m = best score n in
+    let before = best-greatest score n in
+    elim (decLt (score m) (score (suc n))) [
+      | yes taller ↦
+          rw (lt-ltb (score m) (score (suc n)) taller) (greatest-next score n m (suc n) before (omega arith) (omega arith) (omega arith))
+      | no lower ↦
+          rw (le-ltb (score m) (score (suc n)) (omega arith))
+          (greatest-next score n m m before (omega (arith, before .among)) (omega arith) (omega arith))
+    ]
+
+-- where one symbol's score is above every other's, it alone is such a one: every way to decide ties gives it
+pub only-greatest : (score : ℕ → ℕ) (n a : ℕ) → a ≤ n → ((b : ℕ) → b ≤ n → b ≢ a → score b < score a)
+    → (m : ℕ) → Greatest score n m → m ≡ a
+only-greatest score n a l above m G = elim (ℕ-discrete m a) [
+  | yes e ↦ e
+  | no ne ↦ absurd (omega (arith, above m (G .among) ne, G .greatest a l))
 ]

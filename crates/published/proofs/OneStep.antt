@@ -83,13 +83,13 @@ module _ {𝓢 : Symbols} {q : ℕ} (𝓛 : Laws 𝓢 q) (u s : ℕ) (S : Polyno
   pair-after i hi = rw (pairing-at i hi) at (simultaneous 𝓢 q w Ps S′ below apart i hi)
 
   -- every g_j is the partner of some f_i
-  each-partner : (Q : ℕ → Type 0) → ((i : ℕ) → i < q → Q (J i)) → (j : ℕ) → j < q → Q j
+  pub each-partner : (Q : ℕ → Type 0) → ((i : ℕ) → i < q → Q (J i)) → (j : ℕ) → j < q → Q j
   each-partner Q h j hj =
       rw (pairing-onto 𝓢 q u s S j hj) at (h (partnerBack q s j) (partnerBack-below q s j (omega arith)))
 
   module _ (led : InPlace 𝓢 q (suc s) S) where
     -- what the step makes of pair i
-    step-of : (i : ℕ) → i < q → Outcome 𝓢 q s i (J i) (degreeF 𝓢 q S i) (degreeG 𝓢 q S (J i))
+    pub step-of : (i : ℕ) → i < q → Outcome 𝓢 q s i (J i) (degreeF 𝓢 q S i) (degreeG 𝓢 q S (J i))
         (coefficient 𝓢 q S′ (f q i)) (coefficient 𝓢 q S′ (g q (J i)))
         (coefficient 𝓢 q S″ (f q i)) (coefficient 𝓢 q S″ (g q (J i)))
     step-of i hi =
@@ -128,11 +128,11 @@ module _ {𝓢 : Symbols} {q : ℕ} (𝓛 : Laws 𝓢 q) (u s : ℕ) (S : Polyno
       fits-after = pair-fits 𝓢 q (q * width q) (led .fitF i hi) (omega (arith, fit-g)) (step-of i hi .made)
 
       -- the degrees that the next step will read
-      is-A : degreeF 𝓢 q S″ i ≡ step-of i hi .A′
+      pub is-A : degreeF 𝓢 q S″ i ≡ step-of i hi .A′
       is-A = degreeF-is 𝓛 S″ i hi after-f (omega (arith, fits-after))
 
       -- and D_i'
-      is-D : degreeG 𝓢 q S″ j ≡ step-of i hi .D′
+      pub is-D : degreeG 𝓢 q S″ j ≡ step-of i hi .D′
       is-D =
           let D′ = step-of i hi .D′ in
           let lighter = weight-mono q j {i = D′} {i′ = degreeG 𝓢 q S j} (pair-falls 𝓢 q (step-of i hi .made)) in
