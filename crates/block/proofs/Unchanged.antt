@@ -22,7 +22,8 @@ use Rattle.block.specs.Writing.{rowsFilled, isPayload, codeRows, blockFo
 use Rattle.block.specs.Untouched.{unchanged, Untouched}
 use Rattle.taperow.specs.declared.Record.{Record}
 use Rattle.verifying.specs.declared.Verified.the-variants.{Copied, Refused}
-use Rattle.taperow.proofs.AsLaid.{unchanged-row}
+use Rattle.laying.proofs.CodeRow.{message-of}
+use Rattle.taperow.proofs.NearRows.{unchanged-row}
 use Rattle.block.proofs.CodeRows.{fills, rows-count, row-is, rows-symbolic}
 
 -- rows of which none is changed are Copied with the sum so far
@@ -71,7 +72,7 @@ module _ (payload : List ℕ) (right : isPayload payload ≡ true) where
     -- every row decodes to its message, with no place changed
     unchanged-all : allRecords block payload ≡ replicate (rowCount block) unchanged
     unfolding allRecords
-    unchanged-all = tab-const (rowCount block) (rowRecord block payload) unchanged (λ r hr. unchanged-row payload bytes block r (written-row r hr))
+    unchanged-all = tab-const (rowCount block) (rowRecord block payload) unchanged (λ r hr. unchanged-row block payload r (message-of payload bytes r) (written-row r hr))
 
     -- the verdict
     verdict-is : verdictFrom 0 0 (allRecords block payload) ≡ Copied 0

@@ -1,4 +1,4 @@
 pub mod Same
 pub mod Tape
 pub mod Outcomes
-pub mod AsLaid
+pub mod NearRows

@@ -77,7 +77,7 @@ all-equal f (suc n) i r total total′ copied j low high =
     (same-or-not j i)
 
 -- Copied is answered only for a copy, however many records and places are lent
-copied-only : (block payload : List ℕ) (records work total : ℕ)
+pub copied-only : (block payload : List ℕ) (records work total : ℕ)
     → firstOf (checksFor block payload records work) Refused (verdictFrom 0 0 (allRecords block payload)) ≡ Copied total
     → CopyOf block payload
 unfolding checksFor allRecords tab

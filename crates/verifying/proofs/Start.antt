@@ -46,13 +46,14 @@ module _ (block payload : List ℕ) (records work : ℕ) where
             (later (ap not (eq-eqb _ _ long)) (later (le-ltb _ _ enough) (here (lt-ltb _ _ short))))))
 
         -- nothing is wrong
+        pub none-holds : areaSize tapeQ ≤ work → Passes (checksFor block payload records work)
+        unfolding checksFor
+        none-holds room =
+            clear (ap not good) (clear (ap not (eq-eqb _ _ long)) (clear (le-ltb _ _ enough) (clear (le-ltb _ _ room) done)))
+
         pub before-none : areaSize tapeQ ≤ work → Copied 0 ≡ verdictBefore block payload records work
-        unfolding verdictBefore checksFor
-        before-none room =
-            sym
-            (passed Refused (Copied 0)
-            (clear (ap not good)
-            (clear (ap not (eq-eqb _ _ long)) (clear (le-ltb _ _ enough) (clear (le-ltb _ _ room) done)))))
+        unfolding verdictBefore
+        before-none room = sym (passed Refused (Copied 0) (none-holds room))
 
 -- what is known of a block and of what is lent where no check holds
 pub record Fit (block payload : List ℕ) (records work : ℕ) : Type 0 where

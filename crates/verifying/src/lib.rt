@@ -2,9 +2,10 @@
 mod verdict; // verdict.rt: the verdict before the first row and after each
 
 ghost use mathlib.Core.Path.{_≡_};
-ghost use Prim.Native.Nat.{ℕ};
+ghost use Prim.Native.Nat.{ℕ, _/_};
+ghost use lib.ListN.{length};
 ghost use Rattle.verifying.specs.declared.Verified.the-variants.{Copied};
-ghost use Rattle.verifying.specs.Copy.{CopyOf};
+ghost use Rattle.verifying.specs.Copy.{CopyOf, CopiedExactly};
 ghost use Rattle.verifying.specs.Verification.{verifyAnswer, verifyRecords, verifyWork};
 ghost use Rattle.verifying.specs.AsBytes.{verifyBytesAnswer, verifyBytesRecords, verifyBytesWork};
 use refusals::Refusal;
@@ -33,6 +34,8 @@ pub fn verify(block: &[u8], payload: &[u8], records: &mut [Record], work: &mut [
     ensures work_left { λ _. ⌜ now (work .exit)
         ≡ verifyWork (now (block .entry)) (now (payload .entry)) (now (records .entry)) (now (work .entry)) ⌝ }
     ensures copied { λ v. ⌜ ((total : ℕ) → v ≡ Copied total → CopyOf (now (block .entry)) (now (payload .entry))) ⌝ }
+    ensures exactly { λ v. ⌜ CopiedExactly (now (block .entry)) (now (payload .entry))
+        (length (now (records .entry))) (length (now (work .entry))) v ⌝ }
 {
     let mut verdict = verdict_before(block, payload, records.len(), work.len());
     let rows = rows_to_read(verdict, block);
@@ -55,6 +58,8 @@ pub fn verify_bytes(block: &[u8], payload: &[u8], records: &mut [u8], work: &mut
     ensures work_left { λ _. ⌜ now (work .exit)
         ≡ verifyBytesWork (now (block .entry)) (now (payload .entry)) (now (records .entry)) (now (work .entry)) ⌝ }
     ensures copied { λ v. ⌜ ((total : ℕ) → v ≡ Copied total → CopyOf (now (block .entry)) (now (payload .entry))) ⌝ }
+    ensures exactly { λ v. ⌜ CopiedExactly (now (block .entry)) (now (payload .entry))
+        (length (now (records .entry)) / 2) (length (now (work .entry))) v ⌝ }
 {
     let mut verdict = verdict_before(block, payload, records.len() / 2, work.len());
     let rows = rows_to_read(verdict, block);

@@ -1,6 +1,7 @@
 // The verdict on a block, made row by row: before the first row it is a refusal or that nothing differs so far.
 ghost use mathlib.Core.Path.{_≡_};
-ghost use Prim.Native.Nat.{_+_, _<_, _^_};
+ghost use Prim.Native.Nat.{ℕ, _+_, _<_, _^_};
+ghost use lib.ListN.{getD};
 ghost use Rattle.layout.specs.Layout.{rowCount};
 ghost use Rattle.verifying.specs.Inside.{verdictBefore, rowsToRead, nextVerdict, totalOf};
 use crate::Verified;
@@ -11,9 +12,11 @@ use layout::row_count;
 use refusals::Refusal;
 use taperow::Record;
 
-// The verdict before any row is read, where so many records and so many places of work are lent.
+// The verdict before any row is read, where so many records and so many places of work are lent. That the block and the payload are
+// bytes is told on, for those who read rows out of them.
 pub fn verdict_before(block: &[u8], payload: &[u8], records: usize, work: usize) -> Verified
-    ensures { λ r. ⌜ r ≡ verdictBefore (now (block .entry)) (now (payload .entry)) records work ⌝ }
+    ensures { λ r. ⌜ (r ≡ verdictBefore (now (block .entry)) (now (payload .entry)) records work)
+        × ((i : ℕ) → getD (now (block .entry)) i 0 < 256) × ((i : ℕ) → getD (now (payload .entry)) i 0 < 256) ⌝ }
 {
     if !is_block(block) {
         return Verified::Refused(Refusal::BadBlock);

@@ -13,6 +13,7 @@ use Rattle.taperow.specs.Reading.{rowRecord}
 use Rattle.verifying.specs.AsBytes.{recordBytes}
 use Rattle.verifying.proofs.Rounds.{worked, worked-next, after, after-next, Ready, ready}
 use Rattle.verifying.proofs.Copies.{copied-bytes-is-a-copy}
+use Rattle.verifying.proofs.NearCopies.{verify-bytes-exactly}
 use Rattle.verifying.proofs.Ends.{bytes-next, bytes-answer, bytes-records, bytes-work}
 use Rattle.verifying.proofs.verify_bytes.Statement.{statement}
 use Rattle.verifying.proofs.verify_bytes.Tie as tie
@@ -48,7 +49,7 @@ ready-here : (c : tie.In-loop Inv-loop μ-loop) → Ready
     (c .before .loop .r)
 ready-here c =
     let known = c .before .before in
-    ready _ _ _ _ (c .before .loop .r) (rw (known .rows-to-read .ensures, known .before .verdict-before .ensures) at
+    ready _ _ _ _ (c .before .loop .r) (rw (known .rows-to-read .ensures, known .before .verdict-before .ensures .0) at
     (c .loop-test .taken))
 
 row-record-requires : tie.Need-row-record-requires Inv-loop μ-loop
@@ -76,7 +77,7 @@ next-verdict-requires c κs =
     let turn = c .before .before .before .before in
     rw (
       turn .before .loop .inv .5,
-      turn .before .before .before .verdict-before .ensures,
+      turn .before .before .before .verdict-before .ensures .0,
       c .before .before .row-record .ensures .0,
     ) (ready-here turn .sum)
 
@@ -111,7 +112,8 @@ returns c =
     let l = c .before in
     let calls = l .before in
     let s = calls .before .before .before .before .before .before .args in
-    let first = calls .before .verdict-before .ensures in
+    let known = calls .before .verdict-before .ensures in
+    let first = known .0 in
     let all = le-antisymm (l .loop .inv .0) (c .loop-test .left) in
     let answer = bytes-answer _ _ (now (s .records)) (now (s .work)) _ _ _ first (calls .rows-to-read .ensures) all _
     (l .loop .inv .5) in (
@@ -120,7 +122,10 @@ returns c =
         bytes-records _ _ (now (s .records)) (now (s .work)) _ _ _ first (calls .rows-to-read .ensures) all _ (l .loop .inv .1),
         (
           bytes-work _ _ (now (s .records)) (now (s .work)) _ _ _ first (calls .rows-to-read .ensures) all _ (l .loop .inv .3),
-          λ total is. copied-bytes-is-a-copy _ _ (now (s .records)) (now (s .work)) total (sym answer ∙ is),
+          (
+            λ total is. copied-bytes-is-a-copy _ _ (now (s .records)) (now (s .work)) total (sym answer ∙ is),
+            rw answer (verify-bytes-exactly _ _ (known .1) (known .2) (now (s .records)) (now (s .work))),
+          ),
         ),
       ),
     )

@@ -29,7 +29,7 @@ use Rattle.taperow.specs.declared.Record.{Record}
 use Rattle.verifying.specs.declared.Verified.{Verified}
 use Rattle.verifying.specs.declared.Verified.the-variants.{Copied}
 use Rattle.verifying.specs.Verification.{verifyAnswer, verifyRecords, verifyWork}
-use Rattle.verifying.specs.Copy.{CopyOf}
+use Rattle.verifying.specs.Copy.{CopyOf, CopiedExactly}
 use Rattle.taperow.proofs.Record as T
 use Rattle.taperow.proofs.Record.Laws as T′
 use Rattle.verifying.proofs.Verified as S
@@ -37,9 +37,10 @@ use Rattle.verifying.proofs.Verified.Laws as S′
 use Rattle.lists.proofs.Filled.{fill-length}
 use Rattle.verifying.proofs.Rounds.{work-kept, rows-fit}
 use Rattle.verifying.proofs.Copies.{copied-is-a-copy}
+use Rattle.verifying.proofs.NearCopies.{verify-exactly}
 use Rattle.verifying.proofs.Ends.{verify-answer, verify-records, verify-work}
 use Rattle.verifying.proofs.verify as f′
-use Rattle.verifying.proofs.verify.Proof.Ground.{Passed, stayed, sr, xr, f, n, ys, ws, vs, OB, OP, OW, bound, Post}
+use Rattle.verifying.proofs.verify.Proof.Ground.{Passed, Bytes, stayed, sr, xr, f, n, ys, ws, vs, OB, OP, OW, bound, Post}
 
 module _ {M : Type 1} (𝓤 : URA M) (H : Heap 𝓤) (A : Atoms 𝓤) (W : Given 𝓤 H A) where
   -- a machine value of a record, and of a verdict, has its type
@@ -50,7 +51,7 @@ module _ {M : Type 1} (𝓤 : URA M) (H : Heap 𝓤) (A : Atoms 𝓤) (W : Given
   typed-v v w is = EL.lawful S.the-type S′.the-laws 𝓤 H A W tt .typed v _ is .0
 
 module _ {M : Type 1} (𝓤 : URA M) (H : Heap 𝓤) (A : Atoms 𝓤) (W : Given 𝓤 H A) (mem : Memory → SProp 𝓤) (run : Routine → Fun 𝓤)
-    (p : Passed) where
+    (p : Passed) (bytes : Bytes p) where
   open Passed p using (κ₀, κ₁, κ₂, κ₃, q₀, q₁, q₂, q₃, B, P, b, o, γ, ys₀, ws₀, room-r)
 
   records-long : length (ys p (n p)) ≡ length ys₀
@@ -68,7 +69,10 @@ module _ {M : Type 1} (𝓤 : URA M) (H : Heap 𝓤) (A : Atoms 𝓤) (W : Given
       suffices ! _ (ends-at 𝓤 H A f′.ended stayed (f′.clauses 𝓤 H A mem run) W (bound 𝓤 H A mem run p) w (vs p (n p))
       (tt, (tt, (ys p (n p), (ws p (n p), tt))))
       (tt, (tt, (records-long, (work-kept (now B) (now P) (length ys₀) ws₀ (n p) (le-refl (n p)), tt))))) $
-      -- what the four clauses say
+      -- what the five clauses say
+      use0 W (raw (fact 𝓤 (CopiedExactly (now B) (now P) (length ys₀) (length ws₀) (vs p (n p)))))
+      (factI 𝓤 _ (emp 𝓤) (subst (CopiedExactly (now B) (now P) (length ys₀) (length ws₀)) (sym (verify-answer (now B) (now P) ys₀ ws₀))
+      (verify-exactly (now B) (now P) (bytes .0) (bytes .1) ys₀ ws₀))) $
       use0 W (raw (fact 𝓤 ((total : ℕ) → (vs p) (n p) ≡ Copied total → CopyOf (now B) (now P))))
       (factI 𝓤 _ (emp 𝓤) (λ total is. copied-is-a-copy (now B) (now P) ys₀ ws₀ total
       (sym (verify-answer (now B) (now P) ys₀ ws₀) ∙ is))) $
@@ -78,16 +82,16 @@ module _ {M : Type 1} (𝓤 : URA M) (H : Heap 𝓤) (A : Atoms 𝓤) (W : Given
       (factI 𝓤 _ (emp 𝓤) (verify-records (now B) (now P) ys₀ ws₀)) $
       use0 W (raw (fact 𝓤 (vs p (n p) ≡ verifyAnswer (now B) (now P) ys₀ ws₀)))
       (factI 𝓤 _ (emp 𝓤) (verify-answer (now B) (now P) ys₀ ws₀)) $
-      -- [the four; OB; OP; OW; obs; the borrow; the tokens; the result]
-      nothing ! $ move ! (13 ∷ 0 ∷ []) $ join ! $ move ! (12 ∷ 0 ∷ []) $ join ! $ move ! (11 ∷ 0 ∷ []) $ join ! $
-      move ! (10 ∷ 0 ∷ []) $ join ! $
-      -- [the tokens; the four; OB; OP; OW; obs; the borrow; the result]
-      move ! (8 ∷ 9 ∷ []) $ fjoin ! $
+      -- [the five; OB; OP; OW; obs; the borrow; the tokens; the result]
+      nothing ! $ move ! (14 ∷ 0 ∷ []) $ join ! $ move ! (13 ∷ 0 ∷ []) $ join ! $ move ! (12 ∷ 0 ∷ []) $ join ! $
+      move ! (11 ∷ 0 ∷ []) $ join ! $
+      -- [the tokens; the five; OB; OP; OW; obs; the borrow; the result]
+      move ! (9 ∷ 10 ∷ []) $ fjoin ! $
       pureI ! (at-slice T.the-row (xr p (ys p (n p))) (sr p ∷ [])) (tt, (tt, tt))
       (ap (λ (m : ℕ). sliceVal (b, o) m ∷ []) (sym records-long), subst (Room T.the-row) (sym records-long) room-r) $
       fjoin ! $
-      -- [OR; the tokens; the four; OB; OP; OW; the result]
-      nothing ! $ move ! (9 ∷ 0 ∷ []) $ fjoin ! $ move ! (1 ∷ 0 ∷ []) $ fjoin ! $ move ! (7 ∷ 0 ∷ []) $ fjoin ! $
-      move ! (6 ∷ 0 ∷ []) $ fjoin ! $
-      -- [what is had; the tokens; the four; the result]
-      move ! (0 ∷ 6 ∷ []) $ join ! $ move ! (1 ∷ 0 ∷ []) $ join ! $ done !
+      -- [OR; the tokens; the five; OB; OP; OW; the result]
+      nothing ! $ move ! (10 ∷ 0 ∷ []) $ fjoin ! $ move ! (1 ∷ 0 ∷ []) $ fjoin ! $ move ! (8 ∷ 0 ∷ []) $ fjoin ! $
+      move ! (7 ∷ 0 ∷ []) $ fjoin ! $
+      -- [what is had; the tokens; the five; the result]
+      move ! (0 ∷ 7 ∷ []) $ join ! $ move ! (1 ∷ 0 ∷ []) $ join ! $ done !

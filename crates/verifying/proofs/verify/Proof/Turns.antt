@@ -51,7 +51,7 @@ use Rattle.verifying.proofs.verdict.next_verdict.Symbol.{name as #next}
 use Rattle.taperow.proofs.row_record as row
 use Rattle.taperow.proofs.row_record.Symbol.{name as #row}
 use Rattle.verifying.proofs.verify.Code.Mir as code-mir
-use Rattle.verifying.proofs.verify.Proof.Ground.{Passed, word, sliceb, slicep, slicer, slicew, refe, slicee, Row, Next, sb, sp, sr, sw, xw, f, n, ys, ws, v₀, vs, OB, OP, OW, Post}
+use Rattle.verifying.proofs.verify.Proof.Ground.{Passed, Bytes, word, sliceb, slicep, slicer, slicew, refe, slicee, Row, Next, sb, sp, sr, sw, xw, f, n, ys, ws, v₀, vs, OB, OP, OW, Post}
 use Rattle.verifying.proofs.verify.Proof.Standing.{Upto, Nearer, Nearer-wf, fits, here, kept, asked, further, step-fits, within, twice, at-end, last-is}
 use Rattle.verifying.proofs.verify.Proof.Callees.{to-row, goes-row, to-next, goes-next}
 use Rattle.verifying.proofs.verify.Proof.Exit.{typed-r, typed-v, exits}
@@ -73,7 +73,7 @@ abbrev more : Body
 more = rest (rest code-mir.turn-1)
 
 module _ {M : Type 1} (𝓤 : URA M) (H : Heap 𝓤) (A : Atoms 𝓤) (W : Given 𝓤 H A) (mem : Memory → SProp 𝓤) (run : Routine → Fun 𝓤)
-    (p : Passed) where
+    (p : Passed) (bytes : Bytes p) where
   open Passed p using (κ₀, κ₁, κ₂, κ₃, q₀, q₁, q₂, q₃, B, P, b, o, γ, ys₀, bw, ow, γw, ws₀, room-w)
 
   -- what the loop holds
@@ -227,7 +227,7 @@ module _ {M : Type 1} (𝓤 : URA M) (H : Heap 𝓤) (A : Atoms 𝓤) (W : Given
         rewrite ! 4 (λ (j : ℕ). ‵ (fobs γ (codedHoleys T.the-row .code (heres T.the-row (ys p j))))) (at-end p i over) refl $
         rewrite ! 5 (λ (j : ℕ). ‵ (fbor κ₂ (Held T.the-row (length (ys p j)) b o γ))) (at-end p i over) refl $
         keep ! (1 ∷ 2 ∷ 3 ∷ 4 ∷ 5 ∷ 6 ∷ 7 ∷ 8 ∷ 9 ∷ 0 ∷ []) $
-        by ! (exits 𝓤 H A W mem run p (i .1 .1 .0)))
+        by ! (exits 𝓤 H A W mem run p bytes (i .1 .1 .0)))
       where
         k : ℕ
         k = i .0
