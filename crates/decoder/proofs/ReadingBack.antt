@@ -1,7 +1,6 @@
--- Decoding the row of a message of the code: no place differs, so that it is within reach; the votes are the message, and it is
--- accepted with count 0.
+-- Decoding the row of a message of the code: no place differs, so that it is within reach, and the votes are the message.
 -- Assumes nothing.
-use mathlib.Core.Path.{_≡_, ap, _∙_}
+use mathlib.Core.Path.{_≡_}
 use mathlib.Core.List.{List}
 use Prim.Native.Nat.{ℕ}
 use native.Mathlib.Omega.{arith}
@@ -11,9 +10,7 @@ use Rattle.encoder.proofs.RowSymbols.{row-count, row-symbols}
 use Rattle.judging.specs.Judging.{countOf}
 use Rattle.judging.proofs.Differing.{differing-self}
 use Rattle.voting.specs.Voting.{voted}
-use Rattle.decoder.specs.declared.Decoded.the-variants.{Accepted}
-use Rattle.decoder.specs.Decoding.{decoded}
-use Rattle.decoder.proofs.WithinReach.{voted-within, decoded-within}
+use Rattle.decoder.proofs.WithinReach.{voted-within}
 
 module _ (q u : ℕ) (sent : List ℕ) (m : Message q u sent) where
   -- its row is a full row of symbols
@@ -33,8 +30,3 @@ module _ (q u : ℕ) (sent : List ℕ) (m : Message q u sent) where
   -- the votes are the message
   pub voted-row : voted q u (rowNumbers q u sent) ≡ sent
   voted-row = voted-within q u sent (rowNumbers q u sent) m row-received (omega (arith, none-differs))
-
-  -- and it is accepted with count 0
-  pub decoded-row : decoded q u (rowNumbers q u sent) ≡ Accepted 0
-  decoded-row =
-      decoded-within q u sent (rowNumbers q u sent) m row-received (omega (arith, none-differs)) ∙ ap Accepted none-differs

@@ -58,7 +58,7 @@ module _ (block payload : List ℕ) (bytes : (i : ℕ) → getD block i 0 < 256)
     where
       row : (r : ℕ) → r < rowCount block
           → rowRecord block payload r ≡ record { state = 0; count = countOf tapeQ tapeU (payloadRow payload r) (blockRow block r) }
-      row r hr = near-row block payload r (message-of payload bytes′ r) (row-of block bytes r) (N .near r hr)
+      row r hr = near-row block payload r (message-of payload bytes′ r) (row-of block bytes r) (omega (arith, N .near r hr))
 
   -- however many records and places are lent
   module _ (records work : ℕ) where

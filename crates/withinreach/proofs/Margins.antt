@@ -102,8 +102,8 @@ module _ (q : ℕ) (positive : 0 < q) where
       let r : ℕ = s % q in
       let e = rows-of s in
       let low : r ≤ t = omega (arith, xPower-rows q s positive some) in
-      ap (startGains q) e ∙ gains-margin q positive t r (Nat.mod-lt s positive) low (quotient-below s below)
-      ∙ ap (λ n. q * q * q - n + r * (t + q + 1 - (r + q * q))) (sym e)
+      let sum = ap (startGains q) e ∙ gains-margin q positive t r (Nat.mod-lt s positive) low (quotient-below s below) in
+      omega (arith, sum, ap (λ n. q * q * q - n) e)
 
   module _ (u : ℕ) where
     -- no ν(s) is below the distance
@@ -151,8 +151,7 @@ module _ (q : ℕ) (positive : 0 < q) where
           }
     ]
 
-    -- twice a number within reach is below the distance
-    pub reach-below : (e : ℕ) → u < pointCount q → e ≤ reach q u → 2 * e < distance q u
+    -- twice the reach is below the distance
+    pub reach-below : u < pointCount q → 2 * reach q u < distance q u
     unfolding reach
-    reach-below e small le =
-        omega (arith, distance-bounds q u .least, Nat.div-add-mod (distance q u - 1) 2)
+    reach-below small = omega (arith, distance-bounds q u .least, Nat.div-add-mod (distance q u - 1) 2)

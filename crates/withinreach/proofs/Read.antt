@@ -69,7 +69,7 @@ module _ {𝓢 : Symbols} {q : ℕ} (𝓛 : Laws 𝓢 q) where
       -- the message is within reach
       pub read-within : Within 𝓢 q u message row → votedMessage 𝓢 q u row ≡ message
       unfolding Within
-      read-within few = read-by-distance (reach-below q positive u (apart 𝓢 q u message row) u-below few)
+      read-within few = read-by-distance (omega (arith, few, reach-below q positive u u-below))
 
     -- no second message is within reach of a row
     pub one-message : (message message′ : List K) → length message ≡ dimension q u → length message′ ≡ dimension q u
