@@ -116,6 +116,9 @@ int64_t tape_stop(uint64_t q, uint64_t u, uint64_t steps, const uint8_t *row, si
  * Takes all steps on a row and compares the row of the votes with it. If at most the reach's places differ, writes the
  * votes (k symbols) to message and their row (n symbols) to corrected, and answers how many differ; an undamaged row thus
  * gives its message and 0. Its part of the work area, TAPE_WORK_Q2 or TAPE_WORK_Q4 bytes, ends zero.
+ * Whichever message's row differs from row in at most the reach's places is the one that is written, with that number; there
+ * is never a second such message, and where 8 is given there is none. A row damaged beyond reach of the message that was sent
+ * may be within reach of another, which is then written.
  * row_len is exactly n; work_len is at least that part, message_len at least k, corrected_len at least n.
  * Refuses with 1, 2, 4, 5, 6, 7, 8, checked in this order; 8 where more places differ.
  */
@@ -151,7 +154,9 @@ int64_t tape_write(const uint8_t *payload, size_t payload_len, uint8_t *block, s
  * Writes a record of TAPE_RECORD_BYTES for every row, wherever the answer is no refusal: its state, one of enum tape_state,
  * then how many of its places differ. The first TAPE_WORK_Q4 bytes of the work area end zero.
  * Answers TAPE_COPIED where every row is equal, with the sum of the counts in *at. Else answers for the first row that is
- * not, whose number (from 0) is in *at: TAPE_DIFFERS or TAPE_UNREADABLE by its state.
+ * not, whose number (from 0) is in *at: TAPE_DIFFERS or TAPE_UNREADABLE by its state. So the answer is TAPE_COPIED exactly if
+ * no row differs in more than TAPE_REACH places from the row that tape_encode makes of its message in the payload, and *at is
+ * then how many places differ in all rows together.
  * Refuses with 9, 10, 11, 6, checked in this order; nothing is then stored to *at. records_len is in bytes.
  */
 int64_t tape_verify(const uint8_t *block, size_t block_len, const uint8_t *payload, size_t payload_len,
