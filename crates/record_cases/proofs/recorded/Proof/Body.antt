@@ -41,7 +41,7 @@ use denote.Triple.Walked.{says, ends-at}
 use Rattle.taperow.specs.declared.Record.{Record}
 use Rattle.verifying.specs.declared.Verified.{Verified}
 use Rattle.verifying.specs.declared.Verified.the-variants.{Copied}
-use Rattle.verifying.specs.Copy.{CopyOf}
+use Rattle.verifying.specs.Copy.{CopyOf, CopiedExactly}
 use Rattle.verifying.specs.Verification.{verifyAnswer, verifyWork}
 use Rattle.taperow.proofs.Record as T
 use Rattle.taperow.proofs.Record.Laws as T′
@@ -176,7 +176,9 @@ module _ {M : Type 1} (𝓤 : URA M) (H : Heap 𝓤) (A : Atoms 𝓤) (W : Given
         ‵ (lasts ver.ended (κ₀, (κ₁, (ν ∷ [], (κ₃, tt)))) (B, (P, (xr p l₄ δ (replicate 4 blank), (xw p ws, tt)))) zs)
         ⊛ (raw (fact 𝓤 (r ≡ verifyAnswer (now B) (now P) (replicate 4 blank) ws)) ⊛ raw (fact 𝓤 (zs .1 .1 .0 ≡ last p))
         ⊛ raw (fact 𝓤 (zs .1 .1 .1 .0 ≡ verifyWork (now B) (now P) (replicate 4 blank) ws))
-        ⊛ raw (fact 𝓤 ((total : ℕ) → r ≡ Copied total → CopyOf (now B) (now P)))))) (id⊢ 𝓤 _) $ pick ! (λ zs. split ! $
+        ⊛ raw (fact 𝓤 ((total : ℕ) → r ≡ Copied total → CopyOf (now B) (now P)))
+        ⊛ raw (fact 𝓤 (CopiedExactly (now B) (now P) (length (replicate 4 blank)) (length ws) r))))) (id⊢ 𝓤 _) $
+        pick ! (λ zs. split ! $
         move ! (1 ∷ []) $ split ! $ let-go ! $ split ! $ move ! (1 ∷ []) $ let-go ! $
         heard ! (zs .1 .1 .0 ≡ last p) (λ e. fsplit ! $ let-go ! $ fsplit ! $ let-go ! $
         fsplit ! $ fsplit ! $ move ! (1 ∷ []) $ let-go ! $ move ! (1 ∷ []) $ fsplit ! $ move ! (1 ∷ []) $ let-go ! $ fsplit ! $

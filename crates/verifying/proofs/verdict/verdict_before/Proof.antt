@@ -26,15 +26,16 @@ is-long : (c : tie.Else2)
     ≡ messageBytes * rowCount (now (c .before .before .before .before .before .before .args .block))
 is-long c = rw (c .before .row-count .ensures .0) at (c .if2 .left)
 
--- the block and the payload are bytes
-bytes : (c : tie.After-shared-slice-known2)
-    → ((i : ℕ) → getD (now (c .before .before .args .block)) i 0 < 256) × ((i : ℕ) → getD (now (c .before .before .args .payload)) i 0 < 256)
-bytes c = (λ i. c .before .shared-slice-known .given i .fits, λ i. c .shared-slice-known2 .given i .fits)
+-- what is shown of the verdict, and that the block and the payload are bytes
+with-bytes : {A : Type 0} (c : tie.After-shared-slice-known2) → A
+    → A
+    × ((i : ℕ) → getD (now (c .before .before .args .block)) i 0 < 256)
+    × ((i : ℕ) → getD (now (c .before .before .args .payload)) i 0 < 256)
+with-bytes c shown = (shown, λ i. c .before .shared-slice-known .given i .fits, λ i. c .shared-slice-known2 .given i .fits)
 
 returns : tie.Need-returns
 returns c =
-    let known = bytes (c .before .before) in
-    (before-9 _ _ _ _ (sym (c .before .is-block .ensures) ∙ not-true _ (c .if1 .taken)), known .0, known .1)
+    with-bytes (c .before .before) (before-9 _ _ _ _ (sym (c .before .is-block .ensures) ∙ not-true _ (c .if1 .taken)))
 
 row-count-requires : tie.Need-row-count-requires
 row-count-requires c κs = search needs
@@ -45,39 +46,30 @@ mul-if2 c = search needs
 returns-2 : tie.Need-returns-2
 returns-2 c =
     let one = c .before .before in
-    let known = bytes (one .before .before) in
-    (before-10 _ _ _ _ (is-good one) (rw (c .before .row-count .ensures .0) at (c .if2 .taken)), known .0, known .1)
+    with-bytes (one .before .before)
+    (before-10 _ _ _ _ (is-good one) (rw (c .before .row-count .ensures .0) at (c .if2 .taken)))
 
 returns-3 : tie.Need-returns-3
 returns-3 c =
     let one = c .before .before .before in
-    let known = bytes (one .before .before) in (
-      before-11 _ _ _ _ (is-good one) (is-long (c .before)) (rw (c .before .before .row-count .ensures .0) at (c .if3 .taken)),
-      known .0,
-      known .1,
-    )
+    with-bytes (one .before .before)
+    (before-11 _ _ _ _ (is-good one) (is-long (c .before)) (rw (c .before .before .row-count .ensures .0) at (c .if3 .taken)))
 
 returns-4 : tie.Need-returns-4
 returns-4 c =
     let two = c .before .before in
     let one = two .before .before in
-    let known = bytes (one .before .before) in (
-      before-6 _ _ _ _ (is-good one) (is-long two) (rw (two .before .row-count .ensures .0) at (c .before .if3 .left))
-          (rw area-is (c .if4 .taken)),
-      known .0,
-      known .1,
-    )
+    with-bytes (one .before .before)
+    (before-6 _ _ _ _ (is-good one) (is-long two) (rw (two .before .row-count .ensures .0) at (c .before .if3 .left))
+    (rw area-is (c .if4 .taken)))
 
 returns-5 : tie.Need-returns-5
 returns-5 c =
     let two = c .before .before in
     let one = two .before .before in
-    let known = bytes (one .before .before) in (
-      before-none _ _ _ _ (is-good one) (is-long two) (rw (two .before .row-count .ensures .0) at (c .before .if3 .left))
-          (rw area-is (c .if4 .left)),
-      known .0,
-      known .1,
-    )
+    with-bytes (one .before .before)
+    (before-none _ _ _ _ (is-good one) (is-long two) (rw (two .before .row-count .ensures .0) at (c .before .if3 .left))
+    (rw area-is (c .if4 .left)))
 
 pub verdict-before-spec : {M : Type 1} → statement M
 verdict-before-spec =
