@@ -88,13 +88,23 @@ fn nearest_of(sent: &[Encoded], asker: &mut Asker) -> Option<Vec<Encoded>> {
     asker.encode(&tape(), messages)
 }
 
+/// A payload of so many rows with the block that the program writes of it, and its messages.
+fn written(rows: usize, asker: &mut Asker) -> Option<(Vec<u8>, Vec<u8>, Vec<Encoded>)> {
+    let case = write_case(rows, &mut asker.random);
+    let done = asker.ask_one(&case)?;
+    let block = done.area(1, block_bytes(rows)).to_vec();
+    let payload = case.areas[0].clone();
+    let sent = encoded_payload(&payload, asker)?;
+    let packed: Vec<u8> = sent.iter().flat_map(|sent| pack(&sent.row)).collect();
+    if block[HEADER_BYTES..] != packed {
+        asker.wrong(format!("a block of {rows} rows has not the payload's rows"))?;
+    }
+    Some((payload, block, sent))
+}
+
 /// The program writes a block, and its fate befalls it.
 fn spoiled(&(rows, fate): &Block, asker: &mut Asker) -> Option<Spoiled> {
-    let case = write_case(rows, &mut asker.random);
-    let written = asker.ask_one(&case)?;
-    let mut block = written.area(1, block_bytes(rows)).to_vec();
-    let mut payload = case.areas[0].clone();
-    let sent = encoded_payload(&payload, asker)?;
+    let (mut payload, mut block, sent) = written(rows, asker)?;
     let others = nearest_of(&sent, asker)?;
     let random = &mut asker.random;
     let spoiled = random.below(rows);

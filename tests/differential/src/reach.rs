@@ -16,14 +16,15 @@ pub struct Reach<'a> {
 }
 
 impl Reach<'_> {
+    /// The quick trials come first: most planted mistakes are then found soon.
     pub fn run(&self) {
-        self.work(EVERY_ROW, &all_codes(2), |code, asker| {
-            every_row(code, self.stride, asker)
-        });
+        self.work(COPIES, &blocks(self.stride), copied_block);
         self.work(DAMAGED, &all_codes(4), |code, asker| {
             damaged_rows(code, self.stride, asker)
         });
-        self.work(COPIES, &blocks(self.stride), copied_block);
+        self.work(EVERY_ROW, &all_codes(2), |code, asker| {
+            every_row(code, self.stride, asker)
+        });
     }
 
     /// Does some jobs, each on one thread, until one finds the program wrong.
