@@ -37,7 +37,6 @@ impl Done {
 }
 
 /// A message with its row.
-#[derive(Clone)]
 pub struct Encoded {
     pub message: Vec<u8>,
     pub row: Vec<u8>,
@@ -107,13 +106,11 @@ impl Asker<'_> {
             let case = |message: &Vec<u8>| encode_case(code, message.clone(), random);
             let cases: Vec<Case> = some.iter().map(case).collect();
             for (message, done) in some.iter().zip(self.ask(&cases)?) {
-                if done.result() != 0 {
-                    self.wrong(format!("u {}: {message:?} is not encoded", code.u))?;
+                let (message, row) = (message.clone(), done.area(1, code.n()).to_vec());
+                if done.result() != 0 || !row.iter().all(|&symbol| code.field.is_symbol(symbol)) {
+                    self.wrong(format!("{code:?}: {message:?} is not encoded"))?;
                 }
-                encoded.push(Encoded {
-                    message: message.clone(),
-                    row: done.area(1, code.n()).to_vec(),
-                });
+                encoded.push(Encoded { message, row });
             }
         }
         Some(encoded)

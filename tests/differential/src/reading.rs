@@ -47,8 +47,8 @@ pub fn every_row(code: &Code, stride: usize, asker: &mut Asker) -> Option<()> {
     let found = match within_reach(code, &encoded) {
         Ok(found) => found,
         Err(row) => {
-            let (u, row) = (code.u, row_of_q_2(row));
-            return asker.wrong(format!("u {u}: two messages are within reach of {row:?}"));
+            let row = row_of_q_2(row);
+            return asker.wrong(format!("{code:?}: two messages within reach of {row:?}"));
         }
     };
     let readings = (0..ROWS).step_by(stride).map(|row| Reading {
@@ -79,9 +79,9 @@ pub fn damaged_rows(code: &Code, stride: usize, asker: &mut Asker) -> Option<()>
     for ((&damage, sent), other) in damages.iter().zip(&sent).zip(&others) {
         let places = differing_places(&sent.row, &other.row);
         if places != code.distance() {
-            let (u, message) = (code.u, &sent.message);
+            let message = &sent.message;
             asker.wrong(format!(
-                "u {u}: {places} places between {message:?} and the nearest"
+                "{code:?}: the row nearest to that of {message:?} differs in {places} places"
             ))?;
         }
         let row = damaged_by(damage, code, &sent.row, &other.row, &mut asker.random);
