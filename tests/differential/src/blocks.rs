@@ -7,7 +7,7 @@ use reference::curve::Code;
 use reference::picture::picture_size;
 use reference::samples::Random;
 
-fn tape() -> Code {
+pub fn tape() -> Code {
     Code::named(4, 45).expect("the tape code is allowed")
 }
 
@@ -23,15 +23,14 @@ fn damage_row(block: &mut [u8], r: usize, places: usize, random: &mut Random) {
     bytes.copy_from_slice(&pack(&symbols));
 }
 
-/// Damages a row in so many places that it can still be read; how many they are.
-pub fn damage_within_reach(block: &mut [u8], r: usize, random: &mut Random) -> u8 {
+/// Damages a row in so many places that it can still be read.
+fn damage_within_reach(block: &mut [u8], r: usize, random: &mut Random) {
     let places = random.below(tape().reach() + 1);
     damage_row(block, r, places, random);
-    places as u8
 }
 
 /// A case over whole areas of random earlier contents.
-fn verify_case(block: Vec<u8>, payload: Vec<u8>, rows: usize, random: &mut Random) -> Case {
+pub fn verify_case(block: Vec<u8>, payload: Vec<u8>, rows: usize, random: &mut Random) -> Case {
     let records = 2 * rows + random.below(6);
     let work = picture_size(4) + random.below(6);
     let call = Call::Verify { at: random.next() };

@@ -60,9 +60,12 @@ impl Harness {
         Ok(answer)
     }
 
-    /// One request and its answer.
-    pub fn ask(&mut self, body: &[u8]) -> Result<Vec<u8>> {
-        self.send([body].into_iter())?;
-        self.answer(body.len())
+    /// Some requests and their answers.
+    pub fn ask<'a>(
+        &mut self,
+        bodies: impl Iterator<Item = &'a [u8]> + Clone,
+    ) -> Result<Vec<Vec<u8>>> {
+        self.send(bodies.clone())?;
+        bodies.map(|body| self.answer(body.len())).collect()
     }
 }

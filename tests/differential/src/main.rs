@@ -6,24 +6,34 @@
 //! - `differential tell SEED STRIDE START... -- PROGRAM MISTAKEN...` sends the same cases to more
 //!   programs, and ends well if PROGRAM agrees and every other one answers wrongly somewhere. One
 //!   that breaks down has not answered.
+//! - `differential reach SEED STRIDE START... -- PROGRAM MISTAKEN...` asks no reference: it damages
+//!   rows that a program encoded itself, and blocks that it wrote, and ends well if PROGRAM reads
+//!   whatever is within reach and every other one somewhere does not.
 
+mod asker;
 mod blocks;
 mod case;
+mod copies;
+mod damage;
 mod expected;
 mod groups;
 mod harness;
 mod lengths;
+mod made;
+mod nearest;
 mod passing;
 mod program;
+mod reach;
+mod reading;
 mod refusals;
 mod report;
-mod rounds;
 mod rows;
 mod trial;
 mod writes;
 
 use groups::all_groups;
 use program::Program;
+use reach::Reach;
 use std::process::ExitCode;
 use std::time::Instant;
 use trial::Trial;
@@ -32,7 +42,7 @@ pub const THREADS: usize = 2;
 
 /// What the words ask for.
 struct Asked {
-    tell: bool,
+    order: String,
     seed: u64,
     stride: usize,
     start: Vec<String>,
@@ -43,34 +53,43 @@ fn asked() -> Option<Asked> {
     let words: Vec<String> = std::env::args().skip(1).collect();
     let end = words.iter().position(|word| word == "--")?;
     let asked = Asked {
-        tell: words[0] == "tell",
+        order: words[0].clone(),
         seed: words.get(1)?.parse().ok()?,
         stride: words.get(2)?.parse().ok()?,
         start: words.get(3..end)?.to_vec(),
         programs: words[end + 1..].to_vec(),
     };
-    let is_known = asked.tell || words[0] == "agree" && asked.programs.len() == 1;
-    (is_known && asked.stride > 0 && !asked.programs.is_empty()).then_some(asked)
+    let is_known = match &asked.order[..] {
+        "agree" => asked.programs.len() == 1,
+        "tell" | "reach" => !asked.programs.is_empty(),
+        _ => false,
+    };
+    (is_known && asked.stride > 0).then_some(asked)
 }
 
 fn main() -> ExitCode {
     let asked = match asked() {
         Some(asked) => asked,
         None => {
-            eprintln!("usage: differential agree|tell SEED STRIDE START... -- PROGRAM...");
+            eprintln!("usage: differential agree|tell|reach SEED STRIDE START... -- PROGRAM...");
             return ExitCode::FAILURE;
         }
     };
+    let many = asked.programs.len() > 1;
     let programs: Vec<Program> = (asked.programs.iter().enumerate())
-        .map(|(number, path)| Program::start(&asked.start, path, number == 0, asked.tell))
+        .map(|(number, path)| Program::start(&asked.start, path, number == 0, many))
         .collect();
     println!("seed {}", asked.seed);
-    let ended_well = if run_all(&asked, &programs) {
-        let told = programs[1..].iter().map(Program::was_told);
-        told.fold(true, |all, one| all & one)
-    } else {
+    match &asked.order[..] {
+        "reach" => run_reach(&asked, &programs),
+        _ => run_groups(&asked, &programs),
+    }
+    let ended_well = if programs[0].has_differed() {
         programs[0].print_found();
         false
+    } else {
+        let told = programs[1..].iter().map(Program::was_told);
+        told.fold(true, |all, one| all & one)
     };
     match ended_well {
         true => ExitCode::SUCCESS,
@@ -78,8 +97,8 @@ fn main() -> ExitCode {
     }
 }
 
-/// Runs all groups; whether the first program agreed in all.
-fn run_all(asked: &Asked, programs: &[Program]) -> bool {
+/// Runs all groups, as long as the first program agrees.
+fn run_groups(asked: &Asked, programs: &[Program]) {
     let mut cases = 0;
     for (number, group) in all_groups().iter().enumerate() {
         let trial = Trial {
@@ -93,11 +112,20 @@ fn run_all(asked: &Asked, programs: &[Program]) -> bool {
         println!("{count:7} {} ({seconds:.1} s)", group.name);
         cases += count;
         if programs[0].has_differed() {
-            return false;
+            return;
         }
     }
-    let rounds = rounds::run(asked.seed, asked.stride, &programs[0]);
-    println!("{rounds:7} rounds through the program alone");
     println!("{cases} cases, {} differences", programs[0].differences());
-    !programs[0].has_differed()
+}
+
+/// Asks each program by itself.
+fn run_reach(asked: &Asked, programs: &[Program]) {
+    for program in programs {
+        let reach = Reach {
+            seed: asked.seed,
+            stride: asked.stride,
+            program,
+        };
+        reach.run();
+    }
 }

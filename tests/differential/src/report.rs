@@ -20,6 +20,13 @@ pub fn result_of(bytes: &[u8]) -> i64 {
     i64::from_le_bytes(result)
 }
 
+/// The first of the request's numbers, where a verification writes its total or row.
+pub fn place_of(bytes: &[u8]) -> u64 {
+    let mut number = [0; 8];
+    number.copy_from_slice(&bytes[8..16]);
+    u64::from_le_bytes(number)
+}
+
 pub fn is_fault(answer: &[u8]) -> bool {
     result_of(answer) == FAULT
 }

@@ -107,3 +107,9 @@ pub fn row_of_q_2(number: usize) -> Vec<u8> {
         .map(|place| (number >> (2 * place) & 3) as u8)
         .collect()
 }
+
+/// The number whose digits a row of q = 2 has.
+pub fn number_of_row(row: &[u8]) -> usize {
+    let digits = row.iter().rev();
+    digits.fold(0, |number, &symbol| number << 2 | usize::from(symbol))
+}

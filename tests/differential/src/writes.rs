@@ -6,7 +6,7 @@ use reference::block::{MOST_ROWS, PAYLOAD_BYTES, ROW_BYTES};
 use reference::samples::Random;
 
 /// How many bytes the block of this many rows has.
-fn block_bytes(rows: usize) -> usize {
+pub fn block_bytes(rows: usize) -> usize {
     8 + ROW_BYTES * rows
 }
 
