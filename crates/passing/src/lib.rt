@@ -13,10 +13,7 @@ fn first_row<'a>(q: usize, row: &'a [u8]) -> &'a [u8]
         return &row[..0];
     }
     let n = curve::point_count(q);
-    if row.len() < n {
-        return &row[..0];
-    }
-    &row[..n]
+    if row.len() < n { &row[..0] } else { &row[..n] }
 }
 
 // The row that is passed on: a part of one of the two lent rows, that starts where that row starts, and no copy.

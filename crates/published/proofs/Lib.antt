@@ -11,7 +11,6 @@ pub mod Best
 pub mod Scores
 pub mod PairStep
 pub mod InPlace
-pub mod NegativeK
 pub mod Substitution
 pub mod PairGap
 pub mod PairRule
@@ -21,6 +20,7 @@ pub mod StepsAbove
 pub mod StartZeros
 pub mod Given
 pub mod After
+pub mod NegativeK
 pub mod Greatest
 pub mod Bytes
 pub mod NothingLost

@@ -105,6 +105,11 @@ module _ (𝓢 : Symbols) (q : ℕ) (u s : ℕ) (S : Polynomials 𝓢 q) where
     unfolding isNegative
     k-negative h = rw (pairing-k, sub-neg (A + i + pairing-paired .t) (P .partner) h)
 
+    -- and max(k, 0) is then 0
+    pub k-none : A + i + pairing-paired .t < P .partner → positivePart (P .k) ≡ 0
+    unfolding positivePart
+    k-none h = rw (pairing-k, sub-neg (A + i + pairing-paired .t) (P .partner) h)
+
     -- k is not negative
     pub k-whole : P .partner ≤ A + i + pairing-paired .t → P .k ≡ pos (A + i + pairing-paired .t - P .partner)
     k-whole h = pairing-k ∙ sub-pos (A + i + pairing-paired .t) (P .partner) h

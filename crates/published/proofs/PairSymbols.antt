@@ -40,7 +40,7 @@ module _ (𝓢 : Symbols) (q : ℕ) (u s : ℕ) where
     b k = coefficient 𝓢 q S (f q i) lower (P .partner) k
 
     -- w_i and μ_i by the kind of the step and by k
-    abbrev named : Bool → ℤ → Naming 𝓢 q
+    abbrev pub named : Bool → ℤ → Naming 𝓢 q
     named voted k =
         let found = looked 𝓢 q S i (P .partner) k in
         cond voted (inVotedStep 𝓢 q k found lead) (inUnvotedStep 𝓢 q k found)

@@ -47,6 +47,6 @@ first-row-spec =
     returns
     point-count-requires
     slice-aggregate-result-2
-    returns-2
     slice-aggregate-result-3
+    returns-2
     returns-3)
