@@ -77,9 +77,9 @@ module _ {𝓢 : Symbols} {q : ℕ} (𝓛 : Laws 𝓢 q) (u s : ℕ) (P : ℕ �
   no-tie more = only-greatest (score 𝓢 q (tab q P)) (q * q - 1) (number w) within (above more)
 
   -- and w is the vote
-  pub vote-above : isVoted q u s ≡ true → Outvoting → vote 𝓢 q u s (tab q P) ≡ w
+  pub outvoting-is-voted : isVoted q u s ≡ true → Outvoting → vote 𝓢 q u s (tab q P) ≡ w
   unfolding vote
-  vote-above voted more =
+  outvoting-is-voted voted more =
       let chosen = no-tie more (best (score 𝓢 q (tab q P)) (q * q - 1)) (best-greatest (score 𝓢 q (tab q P)) (q * q - 1)) in
       rw (voted, chosen) (𝓛 .symbol-number w)
 

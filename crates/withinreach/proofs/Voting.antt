@@ -29,7 +29,7 @@ use Rattle.published.proofs.PairNumbers.{one-part, pairing-partner, pairing-pai
 use Rattle.published.proofs.PairSymbols.{w-voted}
 use Rattle.published.proofs.VotedWeights.{voted-nongap}
 use Rattle.published.proofs.Best.{Greatest}
-use Rattle.published.proofs.Scores.{no-tie, vote-above}
+use Rattle.published.proofs.Scores.{no-tie, outvoting-is-voted}
 use Rattle.published.proofs.InPlace.{InPlace}
 use Rattle.withinreach.specs.Margin.{startGain, startGains, gain, gainsFor, gainsAgainst}
 use Rattle.withinreach.proofs.Members.{member-substituted, lessened}
@@ -169,4 +169,4 @@ module _ {𝓢 : Symbols} {q : ℕ} (𝓛 : Laws 𝓢 q) (𝓐 : Arranged 𝓢 q
       -- and it is the vote
       pub right-vote : vote 𝓢 q u s (pairings 𝓢 q u s S) ≡ ω
       unfolding pairings gainsFor gainsAgainst gain
-      right-vote = vote-above 𝓛 u s P ω voted outvoted
+      right-vote = outvoting-is-voted 𝓛 u s P ω voted outvoted
