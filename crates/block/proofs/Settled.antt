@@ -8,9 +8,10 @@ use lib.ListN.{length}
 use Rattle.refusals.specs.Numbers.{refusedBy, firstOf}
 use Rattle.refusals.proofs.Checks.{made-of}
 use Rattle.layout.specs.Layout.{blockLength}
-use Rattle.block.specs.declared.Written.{Written}
-use Rattle.block.specs.declared.Written.the-variants.{Length, Refused}
-use Rattle.block.specs.Writing.{writtenAs, rowsFilled, writeChecks, writeAnswer, writeBlock}
+use Rattle.answers.specs.declared.Written.{Written}
+use Rattle.answers.specs.declared.Written.the-variants.{Length, Refused}
+use Rattle.block.specs.Writing.{rowsFilled, writeChecks, writeAnswer, writeBlock}
+use Rattle.answers.specs.InNumbers.{writtenAs}
 
 -- all that is said of a call of `write`
 pub record Writes (payload block : List ℕ) (answer : Written) (block′ : List ℕ) : Type 0 where

@@ -20,8 +20,8 @@ use Rattle.verifying.specs.AsBytes.{recordBytes, byteChecks, verifyBytesAnswer,
 use Rattle.laying.specs.Laying.{codeRow}
 use Rattle.block.specs.Writing.{rowsFilled, isPayload, codeRows, blockFor}
 use Rattle.block.specs.Untouched.{unchanged, Untouched}
-use Rattle.taperow.specs.declared.Record.{Record}
-use Rattle.verifying.specs.declared.Verified.the-variants.{Copied, Refused}
+use Rattle.answers.specs.declared.Record.{Record}
+use Rattle.answers.specs.declared.Verified.the-variants.{Copied, Refused}
 use Rattle.laying.proofs.CodeRow.{message-of}
 use Rattle.taperow.proofs.NearRows.{unchanged-row}
 use Rattle.block.proofs.CodeRows.{fills, rows-count, row-is, rows-symbolic}

@@ -17,8 +17,8 @@ use Rattle.packing.specs.Packing.{packed}
 use Rattle.layout.specs.Layout.{rowBytes, headerBytes, blockLength, headerOf}
 use Rattle.layout.proofs.Headers.{behind-header}
 use Rattle.layout.proofs.Laying.{laid-length, laid-header, row-bytes}
-use Rattle.block.specs.declared.Written.{Written}
-use Rattle.block.specs.declared.Written.the-variants.{Length, Refused}
+use Rattle.answers.specs.declared.Written.{Written}
+use Rattle.answers.specs.declared.Written.the-variants.{Length, Refused}
 use Rattle.laying.specs.Laying.{codeRow}
 use Rattle.block.specs.Writing.{rowsFilled, isPayload, codeRows, blockFor, writeChecks, writeAnswer, writeBlock}
 use Rattle.block.specs.Untouched.{Untouched}

@@ -10,8 +10,8 @@ use Rattle.published.specs.Picture.{areaSize}
 use Rattle.layout.specs.Layout.{tapeQ, rowCount, isBlock, blockRow}
 use Rattle.verifying.specs.Verification.{verifyAnswer, verifyRecords}
 use Rattle.laying.specs.Laying.{codeRow}
-use Rattle.taperow.specs.declared.Record.{Record}
-use Rattle.verifying.specs.declared.Verified.the-variants.{Copied}
+use Rattle.answers.specs.declared.Record.{Record}
+use Rattle.answers.specs.declared.Verified.the-variants.{Copied}
 
 -- the record of a row that is equal, with no symbol changed
 abbrev pub unchanged : Record

@@ -1,25 +1,19 @@
 -- What writing a block answers and leaves, for all inputs. Document 02, Wish 1.
 -- Assumes nothing.
 use mathlib.Core.Bool.{Bool, not, _&&_}
-use mathlib.Core.Logic.{inr}
 use mathlib.Core.List.{List, [], _∷_, _++_}
 use Prim.Native.Nat.{ℕ, _*_, _/_, _%_}
 use lib.Dec.{leb, eqb, ltb}
 use lib.ListN.{length, drop}
 use Rattle.refusals.specs.declared.Refusal.the-variants.{ShortOutput, WrongPayload}
-use Rattle.refusals.specs.Numbers.{Told, refusedBy, Check, _if_, firstOf}
+use Rattle.refusals.specs.Numbers.{Check, _if_, firstOf}
 use Rattle.lists.specs.Tables.{tab, join}
 use Rattle.voting.specs.Voting.{voted}
 use Rattle.packing.specs.Packing.{packed}
 use Rattle.layout.specs.Layout.{tapeQ, tapeU, messageBytes, mostRows, rowCount, blockLength, blockRow, blockOf}
 use Rattle.laying.specs.Laying.{codeRow}
-use Rattle.block.specs.declared.Written.{Written}
-use Rattle.block.specs.declared.Written.the-variants.{Length, Refused}
-
--- the answer in numbers: the length of the block
-abbrev pub writtenAs : Written → Told
-writtenAs (Length bytes) = inr (bytes ∷ [])
-writtenAs (Refused why) = refusedBy why
+use Rattle.answers.specs.declared.Written.{Written}
+use Rattle.answers.specs.declared.Written.the-variants.{Length, Refused}
 
 -- how many rows a payload fills
 unfoldable pub rowsFilled : List ℕ → ℕ

@@ -1,14 +1,15 @@
 // Blocks: a payload becomes a block, and when is a copy a copy?
 mod writing; // writing.rt: whether a payload can be written
 
-pub use taperow::Record;
-pub use verifying::Verified;
+pub use answers::Record;
+pub use answers::Verified;
+pub use answers::Written;
 pub use verifying::verify;
 pub use verifying::verify_bytes;
 ghost use mathlib.Core.Path.{_≡_};
 ghost use Prim.Native.Nat.{ℕ};
 ghost use lib.ListN.{take};
-ghost use Rattle.block.specs.declared.Written.the-variants.{Length};
+ghost use Rattle.answers.specs.declared.Written.the-variants.{Length};
 ghost use Rattle.block.specs.Writing.{writeAnswer, writeBlock};
 ghost use Rattle.block.specs.Untouched.{Untouched};
 use laying::lay_row;
@@ -18,13 +19,6 @@ use layout::ROW_BYTES;
 use layout::put_header;
 use refusals::Refusal;
 use writing::is_payload;
-
-// What writing a block answers.
-pub enum Written {
-    // the block's length in bytes
-    Length(usize),
-    Refused(Refusal),
-}
 
 // Writes the block of a payload: its header and rows to the first bytes of the area, and no byte behind them.
 pub fn write(payload: &[u8], block: &mut [u8]) -> Written

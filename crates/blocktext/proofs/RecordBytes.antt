@@ -8,7 +8,7 @@ use lib.ListN.{length, getD}
 use Rattle.lists.specs.Tables.{tab}
 use Rattle.lists.proofs.Tables.{length-tab, getD-tab}
 use Rattle.verifying.specs.AsBytes.{recordBytes}
-use Rattle.taperow.specs.declared.Record.{Record}
+use Rattle.answers.specs.declared.Record.{Record}
 
 -- the state of record r of a list
 state-at : (xs : List Record) (rest : List ℕ) (r : ℕ) (d : Record) → r < length xs

@@ -20,12 +20,12 @@ use Rattle.layout.specs.Layout.{rowCount}
 use Rattle.taperow.specs.Reading.{rowRecord}
 use Rattle.verifying.specs.Verification.{verdictFrom, allRecords}
 use Rattle.verifying.specs.AsBytes.{byteChecks, verifyBytesAnswer, verifyBytesRecords}
-use Rattle.taperow.specs.declared.Record.{Record}
+use Rattle.answers.specs.declared.Record.{Record}
 use Rattle.verifying.proofs.Verdicts.{byState}
 use Rattle.verifying.proofs.Start.{fit}
-use Rattle.verifying.specs.declared.Verified.{Verified}
-use Rattle.verifying.specs.declared.Verified.the-variants.{Copied, Differs, Unreadable, Refused}
-use Rattle.verifying.proofs.Verified.{the-type}
+use Rattle.answers.specs.declared.Verified.{Verified}
+use Rattle.answers.specs.declared.Verified.the-variants.{Copied, Differs, Unreadable, Refused}
+use Rattle.answers.proofs.Verified.{the-type}
 use Rattle.rowlines.specs.RowLines.{lineAt}
 use Rattle.blocktext.specs.Report.{recordLines, verdictLine, rowsTold}
 use Rattle.rowlines.proofs.Joined.{join-same}

@@ -12,9 +12,9 @@ use Rattle.layout.specs.Layout.{rowCount}
 use Rattle.taperow.specs.Reading.{rowRecord}
 use Rattle.verifying.specs.Verification.{verdictFrom, allRecords}
 use Rattle.verifying.specs.AsBytes.{byteChecks}
-use Rattle.taperow.specs.declared.Record.{Record}
-use Rattle.verifying.specs.declared.Verified.{Verified}
-use Rattle.verifying.specs.declared.Verified.the-variants.{Copied, Differs, Unreadable, Refused}
+use Rattle.answers.specs.declared.Record.{Record}
+use Rattle.answers.specs.declared.Verified.{Verified}
+use Rattle.answers.specs.declared.Verified.the-variants.{Copied, Differs, Unreadable, Refused}
 
 -- the lines of the first n rows
 unfoldable pub recordLines : (ℕ → Record) → ℕ → List ℕ

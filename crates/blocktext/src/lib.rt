@@ -1,10 +1,10 @@
 // What blockcheck prints: a line for each row with something to tell, and the verdict.
+use answers::Verified;
 use layout::MESSAGE_BYTES;
 use layout::TAPE_AREA;
 use refusals::number_of;
 use rowlines::put_line;
 use rowlines::put_rows;
-use verifying::Verified;
 use verifying::verify_bytes;
 ghost use mathlib.Core.Path.{_≡_};
 ghost use Prim.Native.Nat.{_+_, _≤_};

@@ -1,7 +1,7 @@
 // blockwrite PAYLOAD BLOCK: writes the block of the payload in one file to the other file. It prints `wrote` and the block's
 // length, or `refuse` and a number; a file that cannot be opened, read or written or is too long gets a line of its own and
 // nothing else. The block's file changes only once the whole block has been written beside it.
-use block::Written;
+use answers::Written;
 use libc::STDOUT_FILENO;
 
 // Prints what writing answered.

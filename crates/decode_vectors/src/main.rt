@@ -2,7 +2,7 @@
 // written) and how many places of the work area are zero from its start on; then document 01's entries for a work area of 1,472
 // and one of 1,471. The files stdin and stdout were made outside: they are what tests/reference prints for
 // `cargo run --example decode_vectors -- rows` and `-- answers`.
-use decoder::Decoded;
+use answers::Decoded;
 use libc::STDIN_FILENO;
 use libc::STDOUT_FILENO;
 use vectors::UNTOUCHED;

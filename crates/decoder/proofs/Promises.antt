@@ -12,8 +12,8 @@ use Rattle.refusals.proofs.Checks.{Refuses, refused, passed}
 use Rattle.curve.specs.Codes.{pointCount, dimension}
 use Rattle.encoder.specs.Encoding.{rowNumbers}
 use Rattle.published.specs.Picture.{areaSize}
-use Rattle.decoder.specs.declared.Decoded.{Decoded}
-use Rattle.decoder.specs.declared.Decoded.the-variants.{Accepted, Refused}
+use Rattle.answers.specs.declared.Decoded.{Decoded}
+use Rattle.answers.specs.declared.Decoded.the-variants.{Accepted, Refused}
 use Rattle.judging.specs.Judging.{countOf}
 use Rattle.voting.specs.Voting.{voted, cleared}
 use Rattle.decoder.specs.Decoding.{decoded, decodeChecks, decodeAnswer, decodeWork, decodeMessage, decodeCorrected, ifAccepted}

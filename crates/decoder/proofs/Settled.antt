@@ -13,9 +13,10 @@ use Rattle.refusals.proofs.Checks.{made-of}
 use Rattle.curve.specs.Codes.{reach}
 use Rattle.judging.specs.Judging.{countOf}
 use Rattle.voting.specs.Voting.{voted}
-use Rattle.decoder.specs.declared.Decoded.{Decoded}
-use Rattle.decoder.specs.declared.Decoded.the-variants.{Accepted, Refused}
-use Rattle.decoder.specs.Decoding.{decodedAs, judgement, decoded, decodeChecks, decodeAnswer}
+use Rattle.answers.specs.declared.Decoded.{Decoded}
+use Rattle.answers.specs.declared.Decoded.the-variants.{Accepted, Refused}
+use Rattle.decoder.specs.Decoding.{judgement, decoded, decodeChecks, decodeAnswer}
+use Rattle.answers.specs.InNumbers.{decodedAs}
 use Rattle.decoder.proofs.Promises.{Promised}
 
 -- two results of decoding

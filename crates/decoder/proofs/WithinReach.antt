@@ -29,7 +29,7 @@ use Rattle.withinreach.specs.Read.{differs, votedMessage, apart, Within}
 use Rattle.withinreach.proofs.Read.{read-within}
 use Rattle.judging.specs.Judging.{differing, countOf}
 use Rattle.voting.specs.Voting.{voted}
-use Rattle.decoder.specs.declared.Decoded.the-variants.{Accepted, Refused}
+use Rattle.answers.specs.declared.Decoded.the-variants.{Accepted, Refused}
 use Rattle.decoder.specs.Decoding.{decoded}
 use Rattle.decoder.proofs.Judgements.{accepted-is}
 

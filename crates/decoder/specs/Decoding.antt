@@ -2,26 +2,20 @@
 -- numbers".
 -- Assumes nothing.
 use mathlib.Core.Bool.{true, false, _||_}
-use mathlib.Core.Logic.{inr}
 use mathlib.Core.List.{List, [], _∷_, _++_}
 use Prim.Native.Nat.{ℕ}
 use lib.Dec.{leb, ltb}
 use lib.ListN.{length, drop}
 use Rattle.refusals.specs.declared.Refusal.the-variants.{ShortWork, ShortOutput, BeyondReach}
-use Rattle.refusals.specs.Numbers.{Told, refusedBy, Check, _if_, firstOf}
+use Rattle.refusals.specs.Numbers.{Check, _if_, firstOf}
 use Rattle.curve.specs.Codes.{pointCount, dimension, reach}
 use Rattle.curve.specs.Answers.{codeChecks, symbolChecks}
 use Rattle.encoder.specs.Encoding.{rowNumbers}
 use Rattle.published.specs.Picture.{areaSize}
-use Rattle.decoder.specs.declared.Decoded.{Decoded}
-use Rattle.decoder.specs.declared.Decoded.the-variants.{Accepted, Refused}
+use Rattle.answers.specs.declared.Decoded.{Decoded}
+use Rattle.answers.specs.declared.Decoded.the-variants.{Accepted, Refused}
 use Rattle.judging.specs.Judging.{countOf}
 use Rattle.voting.specs.Voting.{voted, cleared}
-
--- the answer in numbers: an acceptance has the count
-abbrev pub decodedAs : Decoded → Told
-decodedAs (Accepted count) = inr (count ∷ [])
-decodedAs (Refused why) = refusedBy why
 
 -- accepted if the count is no more than the reach τ
 unfoldable pub judgement : ℕ → ℕ → List ℕ → List ℕ → Decoded

@@ -7,8 +7,8 @@ use Prim.Native.Nat.{ℕ}
 use lib.ListN.{take}
 use Rattle.curve.specs.Codes.{pointCount, dimension}
 use Rattle.encoder.specs.Encoding.{rowNumbers}
-use Rattle.decoder.specs.declared.Decoded.{Decoded}
-use Rattle.decoder.specs.declared.Decoded.the-variants.{Accepted}
+use Rattle.answers.specs.declared.Decoded.{Decoded}
+use Rattle.answers.specs.declared.Decoded.the-variants.{Accepted}
 use Rattle.curve.specs.Given.{Message}
 use Rattle.decoder.specs.FullRows.{Room}
 

@@ -9,8 +9,8 @@ use Rattle.curve.specs.Codes.{pointCount, dimension, reach}
 use Rattle.curve.specs.Given.{Message, Received}
 use Rattle.encoder.specs.Encoding.{rowNumbers}
 use Rattle.judging.specs.Judging.{countOf}
-use Rattle.decoder.specs.declared.Decoded.{Decoded}
-use Rattle.decoder.specs.declared.Decoded.the-variants.{Accepted}
+use Rattle.answers.specs.declared.Decoded.{Decoded}
+use Rattle.answers.specs.declared.Decoded.the-variants.{Accepted}
 use Rattle.decoder.specs.FullRows.{Room}
 
 -- accepted with the number of places that differ, and the outputs begin with the message that was sent and with its row

@@ -1,4 +1,5 @@
 // A received row becomes the message that its votes give, or a refusal.
+pub use answers::Decoded;
 use curve::Code;
 use curve::Named;
 use refusals::Refusal;
@@ -11,12 +12,6 @@ ghost use Rattle.curve.specs.Given.{Valid, Received};
 ghost use Rattle.decoder.specs.FullRows.{Room, messageAfter, correctedAfter};
 ghost use Rattle.decoder.specs.Undamaged.{Undamaged};
 ghost use Rattle.decoder.specs.WithinReach.{WithinReach};
-
-// What decoding answers; an acceptance has the count of places that differ.
-pub enum Decoded {
-    Accepted(usize),
-    Refused(Refusal),
-}
 
 // Decodes a full row of symbols: votes, encodes the votes again, and accepts what is within reach.
 pub fn decode_row(

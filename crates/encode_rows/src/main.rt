@@ -1,7 +1,7 @@
 // Runs encoding for q = 4 on the bounds of u that document 01's hand-worked table has (its last entry), and on three messages of
 // the tape code. The file stdout holds what must come out. Its rows were made outside: the messages are the first three that
 // samples::Random::seeded(45) of tests/reference draws, and the rows are what curve::Code::encode there makes of them.
-use encoder::Encoded;
+use answers::Encoded;
 use libc::STDOUT_FILENO;
 
 // The answer as a word, with a number for a refusal.

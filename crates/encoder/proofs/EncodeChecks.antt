@@ -10,7 +10,7 @@ use Rattle.refusals.specs.declared.Refusal.the-variants.{ShortOutput}
 use Rattle.refusals.proofs.Checks.{Refuses, here, Passes, clear, done, refused, passed, refuses-front, refuses-behind, passes-both}
 use Rattle.curve.specs.Codes.{pointCount, dimension}
 use Rattle.curve.specs.Answers.{codeChecks, symbolChecks}
-use Rattle.encoder.specs.declared.Encoded.the-variants.{Done, Refused}
+use Rattle.answers.specs.declared.Encoded.the-variants.{Done, Refused}
 use Rattle.encoder.specs.Encoding.{rowNumbers, encodeChecks, encodeAnswer, encodeOutput}
 
 module _ (q u : ℕ) (message output : List ℕ) where

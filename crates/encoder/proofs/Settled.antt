@@ -7,9 +7,10 @@ use Prim.Native.Nat.{ℕ}
 use lib.ListN.{length}
 use Rattle.refusals.specs.Numbers.{refusedBy, firstOf}
 use Rattle.refusals.proofs.Checks.{made-of}
-use Rattle.encoder.specs.declared.Encoded.{Encoded}
-use Rattle.encoder.specs.declared.Encoded.the-variants.{Done, Refused}
-use Rattle.encoder.specs.Encoding.{encodedAs, encodeChecks, encodeAnswer, encodeOutput}
+use Rattle.answers.specs.declared.Encoded.{Encoded}
+use Rattle.answers.specs.declared.Encoded.the-variants.{Done, Refused}
+use Rattle.encoder.specs.Encoding.{encodeChecks, encodeAnswer, encodeOutput}
+use Rattle.answers.specs.InNumbers.{encodedAs}
 
 -- two results of encoding
 pub encode-settled : (q u : ℕ) (message output : List ℕ) {answer answer′ : Encoded} {output₁ output₂ : List ℕ}

@@ -1,27 +1,21 @@
 -- What encoding answers and writes, for all inputs. Document 01, "Lent areas" and "Refusal numbers".
 -- Assumes nothing.
-use mathlib.Core.Logic.{inr}
 use mathlib.Core.List.{List, [], _∷_, _++_, map}
 use Prim.Native.Nat.{ℕ}
 use lib.Dec.{ltb}
 use lib.ListN.{length, drop}
 use Rattle.refusals.specs.declared.Refusal.the-variants.{ShortOutput}
-use Rattle.refusals.specs.Numbers.{Told, refusedBy, Check, _if_, firstOf}
+use Rattle.refusals.specs.Numbers.{Check, _if_, firstOf}
 use Rattle.symbols.specs.Rule.{symbols, number, symbol}
 use Rattle.curve.specs.Codes.{pointCount, dimension}
 use Rattle.curve.specs.Answers.{codeChecks, symbolChecks}
 use Rattle.curve.specs.Rows.{rowOf}
-use Rattle.encoder.specs.declared.Encoded.{Encoded}
-use Rattle.encoder.specs.declared.Encoded.the-variants.{Done, Refused}
+use Rattle.answers.specs.declared.Encoded.{Encoded}
+use Rattle.answers.specs.declared.Encoded.the-variants.{Done, Refused}
 
 -- the numbers of a message's row
 unfoldable pub rowNumbers : ℕ → ℕ → List ℕ → List ℕ
 rowNumbers q u message = map (number q) (rowOf (symbols q) q u (map (symbol q) message))
-
--- the answer in numbers: done has no value
-abbrev pub encodedAs : Encoded → Told
-encodedAs Done = inr []
-encodedAs (Refused why) = refusedBy why
 
 -- 1, 2, 4, 5, 7
 unfoldable pub encodeChecks : ℕ → ℕ → List ℕ → List ℕ → List Check

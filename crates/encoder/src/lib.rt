@@ -1,5 +1,6 @@
 // A message becomes its row. Each symbol of the row is the value of the message's function at a point, and the points above one
 // x share the values there of the polynomials in x that stand at the powers of y.
+pub use answers::Encoded;
 use curve::Code;
 use curve::Named;
 use evaluation::column;
@@ -13,12 +14,6 @@ ghost use lib.ListN.{length, drop};
 ghost use Rattle.curve.specs.Codes.{pointCount};
 ghost use Rattle.curve.specs.Given.{Valid, Message};
 ghost use Rattle.encoder.specs.Encoding.{rowNumbers, encodeAnswer, encodeOutput};
-
-// What encoding answers.
-pub enum Encoded {
-    Done,
-    Refused(Refusal),
-}
 
 // The row of a message, written to the first n places. A row of the tape code takes 976 products: at each of the 16 x eleven
 // for each of the 4 powers of y, five for x⁵, and then three at each of the 4 points above it.

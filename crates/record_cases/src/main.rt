@@ -1,7 +1,7 @@
 // Runs verification with the records as structs: rows of every state, records past the rows, all four records in use, and a
 // refusal. What must come out is what the reference prints for `cargo run --example record_cases`.
+use answers::Record;
 use libc::STDOUT_FILENO;
-use taperow::Record;
 use verifying::verify;
 ghost use mathlib.Core.Path.{_≡_};
 ghost use lib.ListN.{replicate};

@@ -5,7 +5,7 @@ use Prim.Native.Nat.{ℕ, zero-le}
 use borrow.Author.Tests.{le-leb}
 use Rattle.refusals.specs.declared.Refusal.{Refusal}
 use Rattle.refusals.specs.declared.Refusal.the-variants.{UnknownQ, NoCode, TooManySteps, WrongLength, NoSymbol, ShortWork, ShortOutput, BeyondReach, BadBlock, WrongPayload, FewRecords}
-use Rattle.decoder.specs.declared.Decoded.the-variants.{Accepted, Refused}
+use Rattle.answers.specs.declared.Decoded.the-variants.{Accepted, Refused}
 use Rattle.results.specs.Results.{decodeResult, wasAccepted}
 
 -- every count tells an acceptance

@@ -8,18 +8,14 @@ use lib.ListN.{getD}
 use lib.Signed.{leZ}
 use Rattle.refusals.specs.declared.Refusal.{Refusal}
 use Rattle.refusals.specs.Numbers.{Told, refusedBy}
-use Rattle.encoder.specs.declared.Encoded.{Encoded}
-use Rattle.encoder.specs.Encoding.{encodedAs}
-use Rattle.steps.specs.declared.Stopped.{Stopped}
-use Rattle.steps.specs.Stop.{stoppedAs}
-use Rattle.decoder.specs.declared.Decoded.{Decoded}
-use Rattle.decoder.specs.declared.Decoded.the-variants.{Accepted, Refused}
-use Rattle.decoder.specs.Decoding.{decodedAs}
-use Rattle.verifying.specs.declared.Verified.{Verified}
-use Rattle.verifying.specs.Verification.{verifiedAs}
-use Rattle.block.specs.declared.Written.{Written}
-use Rattle.block.specs.declared.Written.the-variants.{Length, Refused as Unwritten}
-use Rattle.block.specs.Writing.{writtenAs}
+use Rattle.answers.specs.declared.Encoded.{Encoded}
+use Rattle.answers.specs.InNumbers.{encodedAs, stoppedAs, decodedAs, verifiedAs, writtenAs}
+use Rattle.answers.specs.declared.Stopped.{Stopped}
+use Rattle.answers.specs.declared.Decoded.{Decoded}
+use Rattle.answers.specs.declared.Decoded.the-variants.{Accepted, Refused}
+use Rattle.answers.specs.declared.Verified.{Verified}
+use Rattle.answers.specs.declared.Written.{Written}
+use Rattle.answers.specs.declared.Written.the-variants.{Length, Refused as Unwritten}
 
 -- the integer of an answer: a refusal's number with a minus; else its first value, 0 if it has none
 abbrev pub resultOf : Told → ℤ

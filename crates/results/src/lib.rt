@@ -14,13 +14,13 @@ ghost use Rattle.results.specs.Results.{
   CountFits,
   LengthFits,
 };
-use block::Verified;
-use block::Written;
-use decoder::Decoded;
-use encoder::Encoded;
+use answers::Decoded;
+use answers::Encoded;
+use answers::Stopped;
+use answers::Verified;
+use answers::Written;
 use refusals::Refusal;
 use refusals::number_of;
-use steps::Stopped;
 
 // Negative, so that no refusal can be taken for a count or a verdict.
 fn of_refusal(why: Refusal) -> i64

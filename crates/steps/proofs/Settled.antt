@@ -7,9 +7,10 @@ use Prim.Native.Nat.{ℕ}
 use lib.ListN.{length}
 use Rattle.refusals.specs.Numbers.{refusedBy, firstOf}
 use Rattle.refusals.proofs.Checks.{made-of}
-use Rattle.steps.specs.declared.Stopped.{Stopped}
-use Rattle.steps.specs.declared.Stopped.the-variants.{Done, Refused}
-use Rattle.steps.specs.Stop.{stoppedAs, stopChecks, stopAnswer, stopWork, stopOutput}
+use Rattle.answers.specs.declared.Stopped.{Stopped}
+use Rattle.answers.specs.declared.Stopped.the-variants.{Done, Refused}
+use Rattle.steps.specs.Stop.{stopChecks, stopAnswer, stopWork, stopOutput}
+use Rattle.answers.specs.InNumbers.{stoppedAs}
 
 -- all that is said of a call of `stop`
 pub record Stops (q u steps : ℕ) (row work output : List ℕ) (answer : Stopped) (work′ output′ : List ℕ) : Type 0 where

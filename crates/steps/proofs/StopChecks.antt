@@ -13,7 +13,7 @@ use Rattle.curve.specs.Codes.{pointCount, dimension}
 use Rattle.curve.specs.Answers.{codeChecks, symbolChecks}
 use Rattle.published.specs.Start.{stepCount}
 use Rattle.published.specs.Picture.{areaSize}
-use Rattle.steps.specs.declared.Stopped.the-variants.{Done, Refused}
+use Rattle.answers.specs.declared.Stopped.the-variants.{Done, Refused}
 use Rattle.steps.specs.Stop.{pictureAfter, votesAfter, stopChecks, stopAnswer, stopWork, stopOutput}
 
 module _ (q u steps : ℕ) (row work output : List ℕ) where

@@ -1,20 +1,19 @@
 -- What the stop service answers and leaves, for all inputs. Document 01, "Lent areas" and "Refusal numbers".
 -- Assumes nothing.
-use mathlib.Core.Logic.{inr}
 use mathlib.Core.List.{List, [], _∷_, _++_, map}
 use Prim.Native.Nat.{ℕ}
 use lib.Dec.{ltb}
 use lib.ListN.{length, drop}
 use Rattle.refusals.specs.declared.Refusal.the-variants.{TooManySteps, ShortWork, ShortOutput}
-use Rattle.refusals.specs.Numbers.{Told, refusedBy, Check, _if_, firstOf}
+use Rattle.refusals.specs.Numbers.{Check, _if_, firstOf}
 use Rattle.symbols.specs.Rule.{symbols, number, symbol}
 use Rattle.curve.specs.Codes.{pointCount, dimension}
 use Rattle.curve.specs.Answers.{codeChecks, symbolChecks}
 use Rattle.published.specs.Start.{stepCount}
 use Rattle.published.specs.Steps.{State, after, messageOf}
 use Rattle.published.specs.Picture.{areaSize, picture}
-use Rattle.steps.specs.declared.Stopped.{Stopped}
-use Rattle.steps.specs.declared.Stopped.the-variants.{Done, Refused}
+use Rattle.answers.specs.declared.Stopped.{Stopped}
+use Rattle.answers.specs.declared.Stopped.the-variants.{Done, Refused}
 
 -- the state after t steps on a received row
 unfoldable pub stateAfter : (q : ℕ) → ℕ → List ℕ → ℕ → State (symbols q) q
@@ -27,11 +26,6 @@ pictureAfter q u row t = picture (symbols q) q (stateAfter q u row t .polys)
 -- its votes as a message's numbers; those to come are 0
 unfoldable pub votesAfter : ℕ → ℕ → List ℕ → ℕ → List ℕ
 votesAfter q u row t = map (number q) (messageOf (symbols q) q u (stateAfter q u row t .votes))
-
--- the answer in numbers: done has no value
-abbrev pub stoppedAs : Stopped → Told
-stoppedAs Done = inr []
-stoppedAs (Refused why) = refusedBy why
 
 -- 1, 2, 3, 4, 5, 6, 7
 unfoldable pub stopChecks : ℕ → ℕ → ℕ → List ℕ → List ℕ → List ℕ → List Check

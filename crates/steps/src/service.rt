@@ -1,6 +1,6 @@
 // The stop service: any number of steps on a received row, with the picture and the votes that they leave.
-use crate::Stopped;
 use crate::step;
+use answers::Stopped;
 use curve::Code;
 use curve::Named;
 use refusals::Refusal;

@@ -3,9 +3,9 @@
 // the work area and of the output, and the row. Among them are the bounds of document 01's hand-worked table: 76 and 77
 // steps, 1,472 and 1,471 places of work. The files stdin and stdout were made outside: they are what tests/reference prints for
 // `cargo run --example stop_vectors -- cases` and `-- answers`.
+use answers::Stopped;
 use libc::STDIN_FILENO;
 use libc::STDOUT_FILENO;
-use steps::Stopped;
 use vectors::UNTOUCHED;
 use vectors::read_number;
 use vectors::read_symbols;

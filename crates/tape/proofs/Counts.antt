@@ -18,7 +18,7 @@ use Rattle.curve.specs.Answers.{codeChecks}
 use Rattle.curve.proofs.Sizes.{count-small}
 use Rattle.curve.proofs.Distances.{reach-most}
 use Rattle.curve.proofs.Naming.{passes-known}
-use Rattle.decoder.specs.declared.Decoded.the-variants.{Accepted, Refused}
+use Rattle.answers.specs.declared.Decoded.the-variants.{Accepted, Refused}
 use Rattle.judging.specs.Judging.{countOf}
 use Rattle.decoder.specs.Decoding.{judgement, decoded, decodeChecks, decodeAnswer}
 use Rattle.voting.specs.Voting.{voted}

@@ -11,12 +11,12 @@ use borrow.Author.Tests.{leb-true}
 use denote.Enum.Declared.{tagOf}
 use Rattle.refusals.specs.declared.Refusal.the-variants.{BeyondReach}
 use Rattle.curve.specs.Codes.{reach}
-use Rattle.decoder.specs.declared.Decoded.{Decoded}
-use Rattle.decoder.specs.declared.Decoded.the-variants.{Accepted, Refused}
+use Rattle.answers.specs.declared.Decoded.{Decoded}
+use Rattle.answers.specs.declared.Decoded.the-variants.{Accepted, Refused}
 use Rattle.judging.specs.Judging.{countOf}
 use Rattle.decoder.specs.Decoding.{judgement, decoded, ifAccepted}
 use Rattle.voting.specs.Voting.{voted}
-use Rattle.decoder.proofs.Decoded.{the-type}
+use Rattle.answers.proofs.Decoded.{the-type}
 use Rattle.packing.specs.Packing.{unpacked}
 use Rattle.layout.specs.Layout.{tapeQ, tapeU, messageLength, blockRow}
 use Rattle.lists.specs.Same.{sameList}

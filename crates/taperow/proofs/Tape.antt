@@ -10,8 +10,8 @@ use Rattle.refusals.proofs.Checks.{Passes, passed}
 use Rattle.symbols.specs.Rule.{anyBeyond}
 use Rattle.published.specs.Start.{width}
 use Rattle.published.specs.Picture.{areaSize}
-use Rattle.decoder.specs.declared.Decoded.{Decoded}
-use Rattle.decoder.specs.declared.Decoded.the-variants.{Refused}
+use Rattle.answers.specs.declared.Decoded.{Decoded}
+use Rattle.answers.specs.declared.Decoded.the-variants.{Refused}
 use Rattle.voting.specs.Voting.{voted, cleared}
 use Rattle.decoder.specs.Decoding.{decoded, decodeChecks, decodeAnswer, decodeWork, ifAccepted, decodeMessage}
 use Rattle.decoder.proofs.DecodeChecks.{passes as no-check}

@@ -5,13 +5,13 @@ use mathlib.Core.Bool.{Bool, true, false}
 use mathlib.Core.List.{List}
 use Prim.Native.Nat.{ℕ}
 use Rattle.lists.specs.Same.{sameList}
-use Rattle.decoder.specs.declared.Decoded.{Decoded}
-use Rattle.decoder.specs.declared.Decoded.the-variants.{Accepted, Refused}
+use Rattle.answers.specs.declared.Decoded.{Decoded}
+use Rattle.answers.specs.declared.Decoded.the-variants.{Accepted, Refused}
 use Rattle.voting.specs.Voting.{voted}
 use Rattle.decoder.specs.Decoding.{decoded}
 use Rattle.packing.specs.Packing.{unpacked}
 use Rattle.layout.specs.Layout.{tapeQ, tapeU, messageLength, blockRow, payloadRow}
-use Rattle.taperow.specs.declared.Record.{Record}
+use Rattle.answers.specs.declared.Record.{Record}
 
 -- state 0 for the same message, 1 for another one, 2 where nothing was accepted; with an acceptance goes its count, else 0
 unfoldable pub outcome : Decoded → Bool → Record

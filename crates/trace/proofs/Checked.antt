@@ -14,8 +14,8 @@ use Rattle.curve.proofs.GivenChecks.{code-passes, given-passes, passes-given}
 use Rattle.published.specs.Picture.{cellNumber, picture}
 use Rattle.workarea.specs.Area.{Starts, cellsOf, numbers, shown}
 use Rattle.steps.specs.Stop.{stateAfter, pictureAfter}
-use Rattle.decoder.specs.declared.Decoded.{Decoded}
-use Rattle.decoder.specs.declared.Decoded.the-variants.{Accepted, Refused}
+use Rattle.answers.specs.declared.Decoded.{Decoded}
+use Rattle.answers.specs.declared.Decoded.the-variants.{Accepted, Refused}
 use Rattle.decoder.specs.Decoding.{decoded, ifAccepted}
 use Rattle.decoder.specs.FullRows.{messageAfter}
 use Rattle.voting.specs.Voting.{voted}

@@ -22,8 +22,8 @@ use Rattle.curve.proofs.Distances.{reach-most}
 use Rattle.published.specs.Start.{width, startWeight, stepCount}
 use Rattle.published.specs.Steps.{messageOf}
 use Rattle.steps.specs.Stop.{stateAfter, votesAfter}
-use Rattle.decoder.specs.declared.Decoded.{Decoded}
-use Rattle.decoder.specs.declared.Decoded.the-variants.{Accepted, Refused}
+use Rattle.answers.specs.declared.Decoded.{Decoded}
+use Rattle.answers.specs.declared.Decoded.the-variants.{Accepted, Refused}
 use Rattle.judging.specs.Judging.{countOf}
 use Rattle.decoder.specs.Decoding.{judgement, decoded}
 use Rattle.voting.specs.Voting.{voted}

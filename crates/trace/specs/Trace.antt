@@ -8,8 +8,8 @@ use Rattle.refusals.specs.Numbers.{Check, firstOf}
 use Rattle.curve.specs.Codes.{pointCount}
 use Rattle.curve.specs.Answers.{codeChecks, symbolChecks}
 use Rattle.published.specs.Start.{stepCount}
-use Rattle.decoder.specs.declared.Decoded.{Decoded}
-use Rattle.decoder.specs.declared.Decoded.the-variants.{Accepted, Refused}
+use Rattle.answers.specs.declared.Decoded.{Decoded}
+use Rattle.answers.specs.declared.Decoded.the-variants.{Accepted, Refused}
 use Rattle.voting.specs.Voting.{voted}
 use Rattle.decoder.specs.Decoding.{decoded}
 use Rattle.request.specs.Request.{line, Said, asks, nothing, reading}

@@ -1,7 +1,7 @@
 // All lines of a row, or the line of its refusal.
+use answers::Decoded;
 use curve::Code;
 use curve::Named;
-use decoder::Decoded;
 use decoder::decode_row;
 use refusals::Refusal;
 use report::put_acceptance;

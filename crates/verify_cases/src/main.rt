@@ -1,6 +1,6 @@
 // Runs verification where it is refused, by each number alone and by the first of several, and on a full block.
+use answers::Verified;
 use libc::STDOUT_FILENO;
-use verifying::Verified;
 use verifying::verify_bytes;
 ghost use Prim.Native.Nat.{_≤_};
 ghost use lib.ListN.{length};

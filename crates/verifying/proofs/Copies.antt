@@ -15,8 +15,8 @@ use Rattle.refusals.proofs.Checks.{Passes, clear, refused, passed, decideChecks
 use Rattle.lists.specs.Tables.{from, tab}
 use Rattle.lists.proofs.Numbers.{same-or-not}
 use Rattle.lists.proofs.Same.{same-lists}
-use Rattle.decoder.specs.declared.Decoded.{Decoded}
-use Rattle.decoder.specs.declared.Decoded.the-variants.{Accepted, Refused as Declined}
+use Rattle.answers.specs.declared.Decoded.{Decoded}
+use Rattle.answers.specs.declared.Decoded.the-variants.{Accepted, Refused as Declined}
 use Rattle.judging.specs.Judging.{countOf}
 use Rattle.voting.specs.Voting.{voted}
 use Rattle.decoder.specs.Decoding.{decoded}
@@ -26,9 +26,9 @@ use Rattle.taperow.specs.Reading.{outcome, rowRecord}
 use Rattle.verifying.specs.Verification.{checksFor, verdictFrom, allRecords, verifyChecks, verifyAnswer}
 use Rattle.verifying.specs.AsBytes.{byteChecks, verifyBytesAnswer}
 use Rattle.verifying.specs.Copy.{ReadAs, CopyOf}
-use Rattle.taperow.specs.declared.Record.{Record}
-use Rattle.verifying.specs.declared.Verified.{Verified}
-use Rattle.verifying.specs.declared.Verified.the-variants.{Copied, Refused}
+use Rattle.answers.specs.declared.Record.{Record}
+use Rattle.answers.specs.declared.Verified.{Verified}
+use Rattle.answers.specs.declared.Verified.the-variants.{Copied, Refused}
 use Rattle.verifying.proofs.Verdicts.{byState}
 use Rattle.taperow.proofs.Outcomes.{accepted-within}
 

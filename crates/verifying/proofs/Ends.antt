@@ -16,9 +16,9 @@ use Rattle.taperow.specs.Reading.{rowRecord}
 use Rattle.verifying.specs.Verification.{checksFor, verdictFrom, allRecords, verifyChecks, verifyAnswer, verifyRecords, verifyWork}
 use Rattle.verifying.specs.Inside.{verdictBefore, rowsToRead}
 use Rattle.verifying.specs.AsBytes.{recordBytes, byteChecks, verifyBytesAnswer, verifyBytesRecords, verifyBytesWork}
-use Rattle.taperow.specs.declared.Record.{Record}
-use Rattle.verifying.specs.declared.Verified.{Verified}
-use Rattle.verifying.specs.declared.Verified.the-variants.{Refused}
+use Rattle.answers.specs.declared.Record.{Record}
+use Rattle.answers.specs.declared.Verified.{Verified}
+use Rattle.answers.specs.declared.Verified.the-variants.{Refused}
 use Rattle.verifying.proofs.Rounds.{worked, after, after-all, rowsRead, ends-in}
 
 -- whatever a record is stored as

@@ -12,14 +12,15 @@ use borrow.Author.Tests.{eqb-true, eqb-false}
 use Rattle.lists.specs.Tables.{from, tab}
 use Rattle.refusals.specs.Numbers.{refusedBy, firstOf}
 use Rattle.refusals.proofs.Checks.{made-of}
-use Rattle.decoder.specs.declared.Decoded.{Decoded}
-use Rattle.decoder.specs.declared.Decoded.the-variants.{Accepted, Refused as Declined}
-use Rattle.taperow.specs.declared.Record.{Record}
+use Rattle.answers.specs.declared.Decoded.{Decoded}
+use Rattle.answers.specs.declared.Decoded.the-variants.{Accepted, Refused as Declined}
+use Rattle.answers.specs.declared.Record.{Record}
 use Rattle.taperow.specs.Reading.{outcome, rowRecord}
 use Rattle.layout.specs.Layout.{rowCount}
-use Rattle.verifying.specs.declared.Verified.{Verified}
-use Rattle.verifying.specs.declared.Verified.the-variants.{Differs, Unreadable, Refused}
-use Rattle.verifying.specs.Verification.{verifiedAs, verdictFrom, allRecords, verifyChecks, verifyAnswer}
+use Rattle.answers.specs.declared.Verified.{Verified}
+use Rattle.answers.specs.declared.Verified.the-variants.{Differs, Unreadable, Refused}
+use Rattle.verifying.specs.Verification.{verdictFrom, allRecords, verifyChecks, verifyAnswer}
+use Rattle.answers.specs.InNumbers.{verifiedAs}
 use Rattle.verifying.specs.AsBytes.{byteChecks, verifyBytesAnswer}
 
 -- the numbers of a verdict on records, from row r on, after counts that add up to `total`

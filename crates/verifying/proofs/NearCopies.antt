@@ -21,13 +21,13 @@ use Rattle.judging.specs.Judging.{countOf}
 use Rattle.layout.specs.Layout.{tapeQ, tapeU, rowCount, blockRow, payloadRow}
 use Rattle.laying.proofs.CodeRow.{message-of}
 use Rattle.taperow.specs.Reading.{rowRecord}
-use Rattle.taperow.specs.declared.Record.{Record}
+use Rattle.answers.specs.declared.Record.{Record}
 use Rattle.taperow.proofs.NearRows.{row-of, near-row}
 use Rattle.verifying.specs.Verification.{checksFor, verdictFrom, allRecords, verifyChecks, verifyAnswer}
 use Rattle.verifying.specs.AsBytes.{byteChecks, verifyBytesAnswer}
 use Rattle.verifying.specs.Copy.{CopyOf, NearCopy, differingPlaces, CopiedExactly}
-use Rattle.verifying.specs.declared.Verified.{Verified}
-use Rattle.verifying.specs.declared.Verified.the-variants.{Copied, Refused}
+use Rattle.answers.specs.declared.Verified.{Verified}
+use Rattle.answers.specs.declared.Verified.the-variants.{Copied, Refused}
 use Rattle.verifying.proofs.Start.{none-holds}
 use Rattle.verifying.proofs.Verdicts.{byState}
 use Rattle.verifying.proofs.Copies.{copied-only}

@@ -21,9 +21,9 @@ use Rattle.layout.specs.Layout.{tapeReach, rowBytes, messageBytes, headerBytes,
 use Rattle.taperow.specs.Reading.{rowRecord}
 use Rattle.verifying.specs.Verification.{checksFor, verdictFrom}
 use Rattle.verifying.specs.Inside.{verdictBefore, rowsToRead, nextVerdict, totalOf}
-use Rattle.taperow.specs.declared.Record.{Record}
-use Rattle.verifying.specs.declared.Verified.{Verified}
-use Rattle.verifying.specs.declared.Verified.the-variants.{Copied, Differs, Unreadable, Refused}
+use Rattle.answers.specs.declared.Record.{Record}
+use Rattle.answers.specs.declared.Verified.{Verified}
+use Rattle.answers.specs.declared.Verified.the-variants.{Copied, Differs, Unreadable, Refused}
 use Rattle.verifying.proofs.Verdicts.{byState}
 use Rattle.verifying.proofs.Start.{fit}
 use Rattle.taperow.proofs.Outcomes.{row-count-small}

@@ -4,8 +4,8 @@ use mathlib.Core.Path.{_≡_, sym, _∙_}
 use mathlib.Core.List.{List}
 use Prim.Native.Nat.{ℕ}
 use lib.ListN.{length}
-use Rattle.taperow.specs.declared.Record.{Record}
-use Rattle.verifying.specs.declared.Verified.{Verified}
+use Rattle.answers.specs.declared.Record.{Record}
+use Rattle.answers.specs.declared.Verified.{Verified}
 use Rattle.verifying.specs.Verification.{verifyChecks, verifyAnswer, verifyRecords, verifyWork}
 use Rattle.verifying.specs.AsBytes.{byteChecks, verifyBytesAnswer, verifyBytesRecords, verifyBytesWork}
 

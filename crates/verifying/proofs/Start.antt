@@ -13,7 +13,7 @@ use Rattle.layout.specs.Layout.{rowBytes, messageBytes, headerBytes, mostRows, 
 use Rattle.layout.proofs.Headers.{sized}
 use Rattle.verifying.specs.Verification.{checksFor}
 use Rattle.verifying.specs.Inside.{verdictBefore}
-use Rattle.verifying.specs.declared.Verified.the-variants.{Copied, Refused}
+use Rattle.answers.specs.declared.Verified.the-variants.{Copied, Refused}
 
 -- the verdict before any row is read: each check by its number, and that none holds
 module _ (block payload : List ℕ) (records work : ℕ) where

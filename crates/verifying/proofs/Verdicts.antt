@@ -11,10 +11,10 @@ use types.Run.{OneOf}
 use denote.Enum.Declared.{tagOf}
 use borrow.Author.Tests.{eq-eqb, ne-eqb}
 use Rattle.verifying.specs.Inside.{rowsToRead, nextVerdict}
-use Rattle.taperow.specs.declared.Record.{Record}
-use Rattle.verifying.specs.declared.Verified.{Verified}
-use Rattle.verifying.specs.declared.Verified.the-variants.{Copied, Differs, Unreadable, Refused}
-use Rattle.verifying.proofs.Verified.{the-type}
+use Rattle.answers.specs.declared.Record.{Record}
+use Rattle.answers.specs.declared.Verified.{Verified}
+use Rattle.answers.specs.declared.Verified.the-variants.{Copied, Differs, Unreadable, Refused}
+use Rattle.answers.proofs.Verified.{the-type}
 
 -- what a row makes of the verdict so far, by whether its state is 0 and whether it is 1: where it is equal, what `equal` says
 abbrev pub byState : Bool → Bool → ℕ → Verified → Verified

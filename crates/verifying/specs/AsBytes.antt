@@ -8,9 +8,9 @@ use Rattle.published.specs.Picture.{areaSize}
 use Rattle.voting.specs.Voting.{cleared}
 use Rattle.layout.specs.Layout.{tapeQ, rowCount}
 use Rattle.verifying.specs.Verification.{checksFor, verdictFrom, allRecords}
-use Rattle.taperow.specs.declared.Record.{Record}
-use Rattle.verifying.specs.declared.Verified.{Verified}
-use Rattle.verifying.specs.declared.Verified.the-variants.{Refused}
+use Rattle.answers.specs.declared.Record.{Record}
+use Rattle.answers.specs.declared.Verified.{Verified}
+use Rattle.answers.specs.declared.Verified.the-variants.{Refused}
 
 -- a record's bytes: first its state, then its count
 unfoldable pub recordBytes : List Record → List ℕ

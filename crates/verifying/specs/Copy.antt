@@ -8,13 +8,13 @@ use Prim.Native.Nat.{ℕ, _*_, _≤_, _<_}
 use lib.ListN.{length}
 use Rattle.algebra.specs.Totals.{total}
 use Rattle.published.specs.Picture.{areaSize}
-use Rattle.decoder.specs.declared.Decoded.the-variants.{Accepted}
+use Rattle.answers.specs.declared.Decoded.the-variants.{Accepted}
 use Rattle.judging.specs.Judging.{countOf}
 use Rattle.voting.specs.Voting.{voted}
 use Rattle.decoder.specs.Decoding.{decoded}
 use Rattle.layout.specs.Layout.{tapeQ, tapeU, tapeReach, messageBytes, rowCount, isBlock, blockRow, payloadRow}
-use Rattle.verifying.specs.declared.Verified.{Verified}
-use Rattle.verifying.specs.declared.Verified.the-variants.{Copied}
+use Rattle.answers.specs.declared.Verified.{Verified}
+use Rattle.answers.specs.declared.Verified.the-variants.{Copied}
 
 -- the row decodes within reach to exactly this message: it is accepted with the votes for its message, and at most 9 of its
 -- places are not as in the message's row

@@ -7,9 +7,9 @@ use Prim.Native.Nat.{ℕ, _+_}
 use lib.Dec.{eqb}
 use Rattle.refusals.specs.Numbers.{firstOf}
 use Rattle.verifying.specs.Verification.{checksFor}
-use Rattle.taperow.specs.declared.Record.{Record}
-use Rattle.verifying.specs.declared.Verified.{Verified}
-use Rattle.verifying.specs.declared.Verified.the-variants.{Copied, Differs, Unreadable, Refused}
+use Rattle.answers.specs.declared.Record.{Record}
+use Rattle.answers.specs.declared.Verified.{Verified}
+use Rattle.answers.specs.declared.Verified.the-variants.{Copied, Differs, Unreadable, Refused}
 
 -- the verdict before any row is read: the refusal that is due, or Copied
 unfoldable pub verdictBefore : List ℕ → List ℕ → ℕ → ℕ → Verified

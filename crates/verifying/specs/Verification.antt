@@ -1,28 +1,20 @@
 -- What verifying a block answers and leaves, for all inputs. Document 01, "Block and verification" and "Refusal numbers".
 -- Assumes nothing.
 use mathlib.Core.Bool.{true, false, not}
-use mathlib.Core.Logic.{inr}
 use mathlib.Core.List.{List, [], _∷_, _++_}
 use Prim.Native.Nat.{ℕ, suc, _+_, _*_}
 use lib.Dec.{eqb, ltb}
 use lib.ListN.{length, drop}
 use Rattle.refusals.specs.declared.Refusal.the-variants.{ShortWork, BadBlock, WrongPayload, FewRecords}
-use Rattle.refusals.specs.Numbers.{Told, refusedBy, Check, _if_, firstOf}
+use Rattle.refusals.specs.Numbers.{Check, _if_, firstOf}
 use Rattle.lists.specs.Tables.{tab}
 use Rattle.published.specs.Picture.{areaSize}
 use Rattle.voting.specs.Voting.{cleared}
 use Rattle.layout.specs.Layout.{tapeQ, messageBytes, rowCount, isBlock}
-use Rattle.taperow.specs.declared.Record.{Record}
+use Rattle.answers.specs.declared.Record.{Record}
 use Rattle.taperow.specs.Reading.{rowRecord}
-use Rattle.verifying.specs.declared.Verified.{Verified}
-use Rattle.verifying.specs.declared.Verified.the-variants.{Copied, Differs, Unreadable, Refused}
-
--- the answer in numbers: the state for which it is named, then the sum of the counts or the row
-abbrev pub verifiedAs : Verified → Told
-verifiedAs (Copied total) = inr (0 ∷ total ∷ [])
-verifiedAs (Differs row) = inr (1 ∷ row ∷ [])
-verifiedAs (Unreadable row) = inr (2 ∷ row ∷ [])
-verifiedAs (Refused why) = refusedBy why
+use Rattle.answers.specs.declared.Verified.{Verified}
+use Rattle.answers.specs.declared.Verified.the-variants.{Copied, Differs, Unreadable, Refused}
 
 -- the verdict on the rows from r on, after rows in state 0 whose counts add up to `total`: the first row in state 1 or 2 settles
 -- it, as Differs or Unreadable with its number; where there is none it is Copied with all counts added

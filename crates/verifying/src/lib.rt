@@ -1,29 +1,19 @@
 // When is a copy a copy? A block is verified against its payload.
 mod verdict; // verdict.rt: the verdict before the first row and after each
 
+pub use answers::Verified;
 ghost use mathlib.Core.Path.{_≡_};
 ghost use Prim.Native.Nat.{ℕ, _/_};
 ghost use lib.ListN.{length};
-ghost use Rattle.verifying.specs.declared.Verified.the-variants.{Copied};
+ghost use Rattle.answers.specs.declared.Verified.the-variants.{Copied};
 ghost use Rattle.verifying.specs.Copy.{CopyOf, CopiedExactly};
 ghost use Rattle.verifying.specs.Verification.{verifyAnswer, verifyRecords, verifyWork};
 ghost use Rattle.verifying.specs.AsBytes.{verifyBytesAnswer, verifyBytesRecords, verifyBytesWork};
-use refusals::Refusal;
-use taperow::Record;
+use answers::Record;
 use taperow::row_record;
 use verdict::next_verdict;
 use verdict::rows_to_read;
 use verdict::verdict_before;
-
-// What verifying a block answers.
-pub enum Verified {
-    // every row is in state 0: the sum of the counts
-    Copied(usize),
-    // the first row not in state 0, by its state
-    Differs(usize),
-    Unreadable(usize),
-    Refused(Refusal),
-}
 
 // Verifies a block against its payload.
 pub fn verify(block: &[u8], payload: &[u8], records: &mut [Record], work: &mut [u8]) -> Verified

@@ -4,13 +4,13 @@ ghost use Prim.Native.Nat.{ℕ, _+_, _<_, _^_};
 ghost use lib.ListN.{getD};
 ghost use Rattle.layout.specs.Layout.{rowCount};
 ghost use Rattle.verifying.specs.Inside.{verdictBefore, rowsToRead, nextVerdict, totalOf};
-use crate::Verified;
+use answers::Record;
+use answers::Verified;
 use layout::MESSAGE_BYTES;
 use layout::TAPE_AREA;
 use layout::is_block;
 use layout::row_count;
 use refusals::Refusal;
-use taperow::Record;
 
 // The verdict before any row is read, where so many records and so many places of work are lent. That the block and the payload are
 // bytes is told on, for those who read rows out of them.

@@ -16,7 +16,7 @@ use Rattle.encoder.specs.Encoding.{rowNumbers}
 use Rattle.published.specs.Start.{width, table, h, start, f, g}
 use Rattle.published.specs.Pairing.{Pairing, pairing, partnerOf, kOf}
 use Rattle.steps.specs.Stop.{stateAfter}
-use Rattle.decoder.specs.declared.Decoded.the-variants.{Accepted, Refused}
+use Rattle.answers.specs.declared.Decoded.the-variants.{Accepted, Refused}
 use Rattle.voting.specs.Voting.{voted}
 use Rattle.decoder.specs.Decoding.{decoded}
 

@@ -4,8 +4,8 @@ use mathlib.Core.List.{List, [], _∷_, _++_}
 use Prim.Native.Nat.{ℕ}
 use Rattle.lines.specs.Text.{ascii, digits}
 use Rattle.refusals.specs.Numbers.{refusalNumber}
-use Rattle.block.specs.declared.Written.{Written}
-use Rattle.block.specs.declared.Written.the-variants.{Length, Refused}
+use Rattle.answers.specs.declared.Written.{Written}
+use Rattle.answers.specs.declared.Written.the-variants.{Length, Refused}
 
 -- one line
 unfoldable pub writtenLine : Written → List ℕ

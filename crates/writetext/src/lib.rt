@@ -1,5 +1,5 @@
 // What blockwrite prints of what writing answered.
-use block::Written;
+use answers::Written;
 use refusals::number_of;
 use rowlines::put_line;
 ghost use Rattle.io.specs.Counts.{Counts};

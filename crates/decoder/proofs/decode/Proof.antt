@@ -6,7 +6,7 @@ use borrow.Author.Needs.{needs}
 use Rattle.curve.specs.declared.Code.{Code}
 use Rattle.curve.specs.Answers.{codeOf}
 use Rattle.curve.proofs.Naming.{IsNamed, named-refused, named-code, named-valid}
-use Rattle.decoder.specs.declared.Decoded.{Decoded}
+use Rattle.answers.specs.declared.Decoded.{Decoded}
 use Rattle.decoder.proofs.DecodeChecks.{refused-by-code}
 use Rattle.decoder.proofs.Promises.{Promised, refusing, told}
 use Rattle.decoder.proofs.decode.Statement.{statement}

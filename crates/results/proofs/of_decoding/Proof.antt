@@ -4,8 +4,8 @@ use mathlib.Core.Path.{_≡_, sym, ap, subst, _∙_}
 use Prim.Native.Nat.{ℕ, _<_, _^_}
 use mir.Syntax.{w64}
 use mir.Facts.{toZ-pos}
-use Rattle.decoder.specs.declared.Decoded.{Decoded}
-use Rattle.decoder.specs.declared.Decoded.the-variants.{Accepted}
+use Rattle.answers.specs.declared.Decoded.{Decoded}
+use Rattle.answers.specs.declared.Decoded.the-variants.{Accepted}
 use Rattle.results.specs.Results.{decodeResult, CountFits}
 use Rattle.results.proofs.Signed.{returned}
 use Rattle.results.proofs.of_decoding.Statement.{statement}

@@ -4,8 +4,8 @@ use mathlib.Core.Path.{_≡_, sym, ap, subst, _∙_}
 use Prim.Native.Nat.{ℕ, _<_, _^_}
 use mir.Syntax.{w64}
 use mir.Facts.{toZ-pos}
-use Rattle.block.specs.declared.Written.{Written}
-use Rattle.block.specs.declared.Written.the-variants.{Length}
+use Rattle.answers.specs.declared.Written.{Written}
+use Rattle.answers.specs.declared.Written.the-variants.{Length}
 use Rattle.results.specs.Results.{writeResult, LengthFits}
 use Rattle.results.proofs.Signed.{returned}
 use Rattle.results.proofs.of_writing.Statement.{statement}

@@ -1,7 +1,7 @@
 -- `tape_verify` meets its contract: it passes the verdict on as an integer and a place. Assumes nothing.
 use borrow.Author.Needs.{needs}
 use mathlib.Core.Path.{ap, _∙_}
-use Rattle.verifying.specs.declared.Verified.{Verified}
+use Rattle.answers.specs.declared.Verified.{Verified}
 use Rattle.results.specs.Results.{verifyResult, verifyAt}
 use Rattle.results.proofs.Signed.{returned}
 use Rattle.tape.proofs.tape_verify.Statement.{statement}

@@ -26,7 +26,7 @@ use denote.Triple.Statement.{Triple}
 use denote.Triple.Table.{entered, cited}
 use denote.Triple.Walked.{goes-none-slice, goes-slice, Walks, walked, walk-meets}
 use denote.Exit.{yes}
-use Rattle.taperow.proofs.Record as T
+use Rattle.answers.proofs.Record as T
 use Rattle.verifying.proofs.verdict.verdict_before.Symbol as before-def
 use Rattle.verifying.proofs.verdict.verdict_before.Symbol.{name as #before}
 use Rattle.verifying.proofs.verdict.verdict_before.Met as before-thm

@@ -38,15 +38,15 @@ use denote.Triple.Statement.{Triple}
 use denote.Triple.Call.{calls-at}
 use denote.Triple.Clauses.{ensured, Lasts, lasts}
 use denote.Triple.Walked.{says, ends-at}
-use Rattle.taperow.specs.declared.Record.{Record}
-use Rattle.verifying.specs.declared.Verified.{Verified}
-use Rattle.verifying.specs.declared.Verified.the-variants.{Copied}
+use Rattle.answers.specs.declared.Record.{Record}
+use Rattle.answers.specs.declared.Verified.{Verified}
+use Rattle.answers.specs.declared.Verified.the-variants.{Copied}
 use Rattle.verifying.specs.Copy.{CopyOf, CopiedExactly}
 use Rattle.verifying.specs.Verification.{verifyAnswer, verifyWork}
-use Rattle.taperow.proofs.Record as T
-use Rattle.taperow.proofs.Record.Laws as T′
-use Rattle.verifying.proofs.Verified as S
-use Rattle.verifying.proofs.Verified.Laws as S′
+use Rattle.answers.proofs.Record as T
+use Rattle.answers.proofs.Record.Laws as T′
+use Rattle.answers.proofs.Verified as S
+use Rattle.answers.proofs.Verified.Laws as S′
 use Rattle.verifying.proofs.verify as ver
 use Rattle.verifying.proofs.verify.Symbol.{name as #verify}
 use Rattle.record_cases.specs.Blank.{blank}

@@ -28,10 +28,10 @@ use denote.Triple.Spec.{tripleOf}
 use denote.Triple.Statement.{Contract}
 use denote.Triple.Walked.{Stays, stay-none-slice, gave-slice, walkOf}
 use denote.Exit.{yes}
-use Rattle.taperow.specs.declared.Record.{Record}
+use Rattle.answers.specs.declared.Record.{Record}
 use Rattle.verifying.specs.Verification.{verifyRecords}
-use Rattle.taperow.proofs.Record as T
-use Rattle.taperow.proofs.Record.Laws as T′
+use Rattle.answers.proofs.Record as T
+use Rattle.answers.proofs.Record.Laws as T′
 use Rattle.verifying.proofs.verify as ver
 use Rattle.record_cases.specs.Blank.{blank}
 use Rattle.record_cases.proofs.recorded as f′

@@ -25,15 +25,15 @@ use denote.Steps.{nothing}
 use denote.Struct.Laws as LL
 use denote.Enum.Laws as EL
 use denote.Triple.Walked.{ends-at}
-use Rattle.taperow.specs.declared.Record.{Record}
-use Rattle.verifying.specs.declared.Verified.{Verified}
-use Rattle.verifying.specs.declared.Verified.the-variants.{Copied}
+use Rattle.answers.specs.declared.Record.{Record}
+use Rattle.answers.specs.declared.Verified.{Verified}
+use Rattle.answers.specs.declared.Verified.the-variants.{Copied}
 use Rattle.verifying.specs.Verification.{verifyAnswer, verifyRecords, verifyWork}
 use Rattle.verifying.specs.Copy.{CopyOf, CopiedExactly}
-use Rattle.taperow.proofs.Record as T
-use Rattle.taperow.proofs.Record.Laws as T′
-use Rattle.verifying.proofs.Verified as S
-use Rattle.verifying.proofs.Verified.Laws as S′
+use Rattle.answers.proofs.Record as T
+use Rattle.answers.proofs.Record.Laws as T′
+use Rattle.answers.proofs.Verified as S
+use Rattle.answers.proofs.Verified.Laws as S′
 use Rattle.lists.proofs.Filled.{fill-length}
 use Rattle.verifying.proofs.Rounds.{work-kept, rows-fit}
 use Rattle.verifying.proofs.Copies.{copied-is-a-copy}

@@ -23,11 +23,11 @@ use denote.Triple.Statement.{Contract}
 use denote.Triple.Walked.{Stays, stay-none-slice, stay-slice, walkOf}
 use denote.Exit.{yes}
 use Rattle.lists.specs.Tables.{tab}
-use Rattle.taperow.specs.declared.Record.{Record}
-use Rattle.verifying.specs.declared.Verified.{Verified}
+use Rattle.answers.specs.declared.Record.{Record}
+use Rattle.answers.specs.declared.Verified.{Verified}
 use Rattle.taperow.specs.Reading.{rowRecord}
 use Rattle.verifying.specs.Inside.{verdictBefore}
-use Rattle.taperow.proofs.Record as T
+use Rattle.answers.proofs.Record as T
 use Rattle.verifying.proofs.Rounds.{worked, after, rowsRead}
 use Rattle.verifying.proofs.verdict.verdict_before as before
 use Rattle.verifying.proofs.verdict.rows_to_read as rows

@@ -16,7 +16,7 @@ use denote.Laws.{Is}
 use denote.Ref.{now}
 use Rattle.published.specs.Picture.{areaSize}
 use Rattle.layout.specs.Layout.{rowBytes, messageBytes, headerBytes, tapeQ}
-use Rattle.verifying.proofs.Verified as S
+use Rattle.answers.proofs.Verified as S
 use Rattle.lists.proofs.Filled.{fill-length}
 use Rattle.verifying.proofs.Rounds.{work-kept, Ready, ready, rows-fit}
 use Rattle.verifying.proofs.verify.Proof.Ground.{Passed, f, n, ys, ws, vs}

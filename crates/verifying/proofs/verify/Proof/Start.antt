@@ -31,12 +31,12 @@ use denote.Steps.{only, peeks, heard}
 use denote.Triple.Statement.{Triple}
 use denote.Triple.Call.{calls-at}
 use denote.Triple.Clauses.{ensured, Lasts, lasts}
-use Rattle.taperow.specs.declared.Record.{Record}
-use Rattle.verifying.specs.declared.Verified.{Verified}
-use Rattle.taperow.proofs.Record as T
-use Rattle.taperow.proofs.Record.Laws as T′
-use Rattle.verifying.proofs.Verified as S
-use Rattle.verifying.proofs.Verified.Laws as S′
+use Rattle.answers.specs.declared.Record.{Record}
+use Rattle.answers.specs.declared.Verified.{Verified}
+use Rattle.answers.proofs.Record as T
+use Rattle.answers.proofs.Record.Laws as T′
+use Rattle.answers.proofs.Verified as S
+use Rattle.answers.proofs.Verified.Laws as S′
 use Rattle.lists.proofs.Filled.{fill-none}
 use Rattle.verifying.proofs.Rounds.{worked-none, after-none}
 use Rattle.verifying.proofs.verdict.verdict_before as before

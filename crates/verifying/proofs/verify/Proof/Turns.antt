@@ -35,14 +35,14 @@ use denote.Triple.Call.{calls-at}
 use denote.Triple.Clauses.{ensured, Lasts, lasts}
 use Rattle.published.specs.Picture.{areaSize}
 use Rattle.voting.specs.Voting.{cleared}
-use Rattle.taperow.specs.declared.Record.{Record}
-use Rattle.verifying.specs.declared.Verified.{Verified}
+use Rattle.answers.specs.declared.Record.{Record}
+use Rattle.answers.specs.declared.Verified.{Verified}
 use Rattle.layout.specs.Layout.{tapeQ}
 use Rattle.verifying.specs.Inside.{nextVerdict}
-use Rattle.taperow.proofs.Record as T
-use Rattle.taperow.proofs.Record.Laws as T′
-use Rattle.verifying.proofs.Verified as S
-use Rattle.verifying.proofs.Verified.Laws as S′
+use Rattle.answers.proofs.Record as T
+use Rattle.answers.proofs.Record.Laws as T′
+use Rattle.answers.proofs.Verified as S
+use Rattle.answers.proofs.Verified.Laws as S′
 use Rattle.verifying.proofs.Again.{LentAgain, lends-again, comes-back}
 use Rattle.lists.proofs.Filled.{fill-next}
 use Rattle.verifying.proofs.Rounds.{worked-next, after-next}
