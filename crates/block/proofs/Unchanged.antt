@@ -14,7 +14,8 @@ use Rattle.published.specs.Picture.{areaSize}
 use Rattle.layout.specs.Layout.{messageBytes, tapeQ, rowCount, isBlock, blockRow}
 use Rattle.layout.proofs.Laying.{laid-count, laid-block, row-laid}
 use Rattle.taperow.specs.Reading.{rowRecord}
-use Rattle.verifying.specs.Verification.{verdictFrom, allRecords, checksFor, verifyChecks, verifyAnswer}
+use Rattle.verifying.specs.Verification.{verdictFrom, allRecords, verifyChecks, verifyAnswer}
+use Rattle.verdict.specs.Checks.{checksFor}
 use Rattle.verifying.specs.Verification.{verifyRecords}
 use Rattle.verifying.specs.AsBytes.{recordBytes, byteChecks, verifyBytesAnswer, verifyBytesRecords}
 use Rattle.laying.specs.Laying.{codeRow}

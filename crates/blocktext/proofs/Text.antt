@@ -21,8 +21,8 @@ use Rattle.taperow.specs.Reading.{rowRecord}
 use Rattle.verifying.specs.Verification.{verdictFrom, allRecords}
 use Rattle.verifying.specs.AsBytes.{byteChecks, verifyBytesAnswer, verifyBytesRecords}
 use Rattle.answers.specs.declared.Record.{Record}
-use Rattle.verifying.proofs.Verdicts.{byState}
-use Rattle.verifying.proofs.Start.{fit}
+use Rattle.verdict.proofs.Verdicts.{byState}
+use Rattle.verdict.proofs.Start.{fit}
 use Rattle.answers.specs.declared.Verified.{Verified}
 use Rattle.answers.specs.declared.Verified.the-variants.{Copied, Differs, Unreadable, Refused}
 use Rattle.answers.proofs.Verified.{the-type}

@@ -1,6 +1,6 @@
 -- Decoding a row of the tape: the call's checks pass, so that its answer is the row's own.
 -- Assumes nothing.
-use mathlib.Core.Path.{_≡_, refl, sym, ap, _∙_}
+use mathlib.Core.Path.{_≡_, sym, ap, _∙_}
 use mathlib.Core.Bool.{false}
 use mathlib.Core.List.{List, append-nil}
 use Prim.Native.Nat.{ℕ, _≤_}
@@ -8,7 +8,6 @@ use native.Mathlib.Omega.{arith}
 use lib.ListN.{length, drop-of-length-le}
 use Rattle.refusals.proofs.Checks.{Passes, passed}
 use Rattle.symbols.specs.Rule.{anyBeyond}
-use Rattle.published.specs.Start.{width}
 use Rattle.published.specs.Picture.{areaSize}
 use Rattle.answers.specs.declared.Decoded.{Decoded}
 use Rattle.answers.specs.declared.Decoded.the-variants.{Refused}
@@ -17,11 +16,6 @@ use Rattle.decoder.specs.Decoding.{decoded, decodeChecks, decodeAnswer, decodeW
 use Rattle.decoder.proofs.DecodeChecks.{passes as no-check}
 use Rattle.layout.specs.Layout.{tapeQ, tapeU}
 use Rattle.laying.proofs.TapeCode.{points-are, dimension-is, known-tape, a-code}
-
--- the work area for the tape code
-pub area-is : areaSize tapeQ ≡ 1472
-unfolding areaSize width
-area-is = refl
 
 -- a row of 64 symbols with room for all that is written
 module _ (row work message corrected : List ℕ) (full : length row ≡ 64) (symbols : anyBeyond tapeQ row ≡ false)

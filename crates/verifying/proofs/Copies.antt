@@ -23,13 +23,14 @@ use Rattle.decoder.specs.Decoding.{decoded}
 use Rattle.layout.specs.Layout.{tapeQ, tapeU, rowCount, blockRow, payloadRow}
 use Rattle.lists.specs.Same.{sameList}
 use Rattle.taperow.specs.Reading.{outcome, rowRecord}
-use Rattle.verifying.specs.Verification.{checksFor, verdictFrom, allRecords, verifyChecks, verifyAnswer}
+use Rattle.verifying.specs.Verification.{verdictFrom, allRecords, verifyChecks, verifyAnswer}
+use Rattle.verdict.specs.Checks.{checksFor}
 use Rattle.verifying.specs.AsBytes.{byteChecks, verifyBytesAnswer}
 use Rattle.verifying.specs.Copy.{ReadAs, CopyOf}
 use Rattle.answers.specs.declared.Record.{Record}
 use Rattle.answers.specs.declared.Verified.{Verified}
 use Rattle.answers.specs.declared.Verified.the-variants.{Copied, Refused}
-use Rattle.verifying.proofs.Verdicts.{byState}
+use Rattle.verdict.proofs.Verdicts.{byState}
 use Rattle.taperow.proofs.Outcomes.{accepted-within}
 
 -- only an acceptance of the same message has state 0

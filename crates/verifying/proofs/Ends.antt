@@ -13,8 +13,9 @@ use Rattle.published.specs.Picture.{areaSize}
 use Rattle.voting.specs.Voting.{cleared}
 use Rattle.layout.specs.Layout.{tapeQ, rowCount}
 use Rattle.taperow.specs.Reading.{rowRecord}
-use Rattle.verifying.specs.Verification.{checksFor, verdictFrom, allRecords, verifyChecks, verifyAnswer, verifyRecords, verifyWork}
-use Rattle.verifying.specs.Inside.{verdictBefore, rowsToRead}
+use Rattle.verifying.specs.Verification.{verdictFrom, allRecords, verifyChecks, verifyAnswer, verifyRecords, verifyWork}
+use Rattle.verdict.specs.Checks.{checksFor}
+use Rattle.verdict.specs.RowByRow.{verdictBefore, rowsToRead}
 use Rattle.verifying.specs.AsBytes.{recordBytes, byteChecks, verifyBytesAnswer, verifyBytesRecords, verifyBytesWork}
 use Rattle.answers.specs.declared.Record.{Record}
 use Rattle.answers.specs.declared.Verified.{Verified}

@@ -1,5 +1,3 @@
-pub mod Verdicts
-pub mod Start
 pub mod Rounds
 pub mod Ends
 pub mod Again

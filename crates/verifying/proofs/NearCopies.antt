@@ -23,13 +23,14 @@ use Rattle.laying.proofs.CodeRow.{message-of}
 use Rattle.taperow.specs.Reading.{rowRecord}
 use Rattle.answers.specs.declared.Record.{Record}
 use Rattle.taperow.proofs.NearRows.{row-of, near-row}
-use Rattle.verifying.specs.Verification.{checksFor, verdictFrom, allRecords, verifyChecks, verifyAnswer}
+use Rattle.verifying.specs.Verification.{verdictFrom, allRecords, verifyChecks, verifyAnswer}
+use Rattle.verdict.specs.Checks.{checksFor}
 use Rattle.verifying.specs.AsBytes.{byteChecks, verifyBytesAnswer}
 use Rattle.verifying.specs.Copy.{CopyOf, NearCopy, differingPlaces, CopiedExactly}
 use Rattle.answers.specs.declared.Verified.{Verified}
 use Rattle.answers.specs.declared.Verified.the-variants.{Copied, Refused}
-use Rattle.verifying.proofs.Start.{none-holds}
-use Rattle.verifying.proofs.Verdicts.{byState}
+use Rattle.verdict.proofs.Start.{none-holds}
+use Rattle.verdict.proofs.Verdicts.{byState}
 use Rattle.verifying.proofs.Copies.{copied-only}
 
 -- all records from row i on have state 0: Copied, with their counts added up

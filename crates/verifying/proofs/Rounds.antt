@@ -19,13 +19,14 @@ use Rattle.published.specs.Picture.{areaSize}
 use Rattle.voting.specs.Voting.{cleared}
 use Rattle.layout.specs.Layout.{tapeReach, rowBytes, messageBytes, headerBytes, tapeQ, rowCount}
 use Rattle.taperow.specs.Reading.{rowRecord}
-use Rattle.verifying.specs.Verification.{checksFor, verdictFrom}
-use Rattle.verifying.specs.Inside.{verdictBefore, rowsToRead, nextVerdict, totalOf}
+use Rattle.verifying.specs.Verification.{verdictFrom}
+use Rattle.verdict.specs.Checks.{checksFor}
+use Rattle.verdict.specs.RowByRow.{verdictBefore, rowsToRead, nextVerdict, totalOf}
 use Rattle.answers.specs.declared.Record.{Record}
 use Rattle.answers.specs.declared.Verified.{Verified}
 use Rattle.answers.specs.declared.Verified.the-variants.{Copied, Differs, Unreadable, Refused}
-use Rattle.verifying.proofs.Verdicts.{byState}
-use Rattle.verifying.proofs.Start.{fit}
+use Rattle.verdict.proofs.Verdicts.{byState}
+use Rattle.verdict.proofs.Start.{fit}
 use Rattle.taperow.proofs.Outcomes.{row-count-small}
 
 -- the work area after k rows: the first row clears its part, and it stays so

@@ -7,7 +7,8 @@ use Rattle.refusals.specs.Numbers.{Check, firstOf}
 use Rattle.published.specs.Picture.{areaSize}
 use Rattle.voting.specs.Voting.{cleared}
 use Rattle.layout.specs.Layout.{tapeQ, rowCount}
-use Rattle.verifying.specs.Verification.{checksFor, verdictFrom, allRecords}
+use Rattle.verifying.specs.Verification.{verdictFrom, allRecords}
+use Rattle.verdict.specs.Checks.{checksFor}
 use Rattle.answers.specs.declared.Record.{Record}
 use Rattle.answers.specs.declared.Verified.{Verified}
 use Rattle.answers.specs.declared.Verified.the-variants.{Refused}

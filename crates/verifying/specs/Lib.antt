@@ -1,4 +1,3 @@
 pub mod Verification
-pub mod Inside
 pub mod AsBytes
 pub mod Copy

@@ -1,16 +1,16 @@
 -- What verifying a block answers and leaves, for all inputs. Document 01, "Block and verification" and "Refusal numbers".
 -- Assumes nothing.
-use mathlib.Core.Bool.{true, false, not}
+use mathlib.Core.Bool.{true, false}
 use mathlib.Core.List.{List, [], _∷_, _++_}
-use Prim.Native.Nat.{ℕ, suc, _+_, _*_}
-use lib.Dec.{eqb, ltb}
+use Prim.Native.Nat.{ℕ, suc, _+_}
+use lib.Dec.{eqb}
 use lib.ListN.{length, drop}
-use Rattle.refusals.specs.declared.Refusal.the-variants.{ShortWork, BadBlock, WrongPayload, FewRecords}
-use Rattle.refusals.specs.Numbers.{Check, _if_, firstOf}
+use Rattle.refusals.specs.Numbers.{Check, firstOf}
 use Rattle.lists.specs.Tables.{tab}
 use Rattle.published.specs.Picture.{areaSize}
 use Rattle.voting.specs.Voting.{cleared}
-use Rattle.layout.specs.Layout.{tapeQ, messageBytes, rowCount, isBlock}
+use Rattle.verdict.specs.Checks.{checksFor}
+use Rattle.layout.specs.Layout.{tapeQ, rowCount}
 use Rattle.answers.specs.declared.Record.{Record}
 use Rattle.taperow.specs.Reading.{rowRecord}
 use Rattle.answers.specs.declared.Verified.{Verified}
@@ -29,15 +29,6 @@ verdictFrom r total (x ∷ xs) =
 -- the records of all R rows
 unfoldable pub allRecords : List ℕ → List ℕ → List Record
 allRecords block payload = tab (rowCount block) (rowRecord block payload)
-
--- 9, 10, 11, 6, where so many records and so many places of work are lent
-unfoldable pub checksFor : List ℕ → List ℕ → ℕ → ℕ → List Check
-checksFor block payload records work =
-    (BadBlock if not (isBlock block))
-    ∷ (WrongPayload if not (eqb (length payload) (messageBytes * rowCount block)))
-    ∷ (FewRecords if ltb records (rowCount block))
-    ∷ (ShortWork if ltb work (areaSize tapeQ))
-    ∷ []
 
 unfoldable pub verifyChecks : List ℕ → List ℕ → List Record → List ℕ → List Check
 verifyChecks block payload records work = checksFor block payload (length records) (length work)

@@ -1,6 +1,4 @@
 // When is a copy a copy? A block is verified against its payload.
-mod verdict; // verdict.rt: the verdict before the first row and after each
-
 pub use answers::Verified;
 ghost use mathlib.Core.Path.{_≡_};
 ghost use Prim.Native.Nat.{ℕ, _/_};

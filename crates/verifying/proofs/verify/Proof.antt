@@ -27,15 +27,15 @@ use denote.Triple.Table.{entered, cited}
 use denote.Triple.Walked.{goes-none-slice, goes-slice, Walks, walked, walk-meets}
 use denote.Exit.{yes}
 use Rattle.answers.proofs.Record as T
-use Rattle.verifying.proofs.verdict.verdict_before.Symbol as before-def
-use Rattle.verifying.proofs.verdict.verdict_before.Symbol.{name as #before}
-use Rattle.verifying.proofs.verdict.verdict_before.Met as before-thm
-use Rattle.verifying.proofs.verdict.rows_to_read.Symbol as rows-def
-use Rattle.verifying.proofs.verdict.rows_to_read.Symbol.{name as #rows}
-use Rattle.verifying.proofs.verdict.rows_to_read.Met as rows-thm
-use Rattle.verifying.proofs.verdict.next_verdict.Symbol as next-def
-use Rattle.verifying.proofs.verdict.next_verdict.Symbol.{name as #next}
-use Rattle.verifying.proofs.verdict.next_verdict.Met as next-thm
+use Rattle.verdict.proofs.verdict_before.Symbol as before-def
+use Rattle.verdict.proofs.verdict_before.Symbol.{name as #before}
+use Rattle.verdict.proofs.verdict_before.Met as before-thm
+use Rattle.verdict.proofs.rows_to_read.Symbol as rows-def
+use Rattle.verdict.proofs.rows_to_read.Symbol.{name as #rows}
+use Rattle.verdict.proofs.rows_to_read.Met as rows-thm
+use Rattle.verdict.proofs.next_verdict.Symbol as next-def
+use Rattle.verdict.proofs.next_verdict.Symbol.{name as #next}
+use Rattle.verdict.proofs.next_verdict.Met as next-thm
 use Rattle.taperow.proofs.row_record.Symbol as row-def
 use Rattle.taperow.proofs.row_record.Symbol.{name as #row}
 use Rattle.taperow.proofs.row_record.Met as row-thm
@@ -140,10 +140,10 @@ verify-spec 𝓤 H 𝓜 𝓖 𝓡 =
     (tables 𝓤 H 𝓜 𝓡 code.env .C) (tables 𝓤 H 𝓜 𝓡 code.env .Λ) #verify code.function (code.unfolded 𝓤 H 𝓜 𝓡)
     (verify-meets 𝓤 H (𝓖 .A) (givenOf 𝓤 H 𝓜 𝓖) (𝓜 .mem) (𝓡 .run) (tablesOf 𝓤 H 𝓜 (tables 𝓤 H 𝓜 𝓡 code.env))
     (cited 𝓤 H (Before 𝓤 H (𝓖 .A) (𝓜 .mem) (𝓡 .run)) 𝓜 𝓡 code.env #before before-def.routine
-    code.calls-verifying·verdict·verdict-before (before-thm.met 𝓤 H 𝓜 𝓖 𝓡))
-    (cited 𝓤 H (Rows 𝓤 H (𝓖 .A) (𝓜 .mem) (𝓡 .run)) 𝓜 𝓡 code.env #rows rows-def.routine code.calls-verifying·verdict·rows-to-read
+    code.calls-verdict·verdict-before (before-thm.met 𝓤 H 𝓜 𝓖 𝓡))
+    (cited 𝓤 H (Rows 𝓤 H (𝓖 .A) (𝓜 .mem) (𝓡 .run)) 𝓜 𝓡 code.env #rows rows-def.routine code.calls-verdict·rows-to-read
     (rows-thm.met 𝓤 H 𝓜 𝓖 𝓡))
     (cited 𝓤 H (Row 𝓤 H (𝓖 .A) (𝓜 .mem) (𝓡 .run)) 𝓜 𝓡 code.env #row row-def.routine code.calls-taperow·row-record
     (row-thm.met 𝓤 H 𝓜 𝓖 𝓡))
-    (cited 𝓤 H (Next 𝓤 H (𝓖 .A) (𝓜 .mem) (𝓡 .run)) 𝓜 𝓡 code.env #next next-def.routine code.calls-verifying·verdict·next-verdict
+    (cited 𝓤 H (Next 𝓤 H (𝓖 .A) (𝓜 .mem) (𝓡 .run)) 𝓜 𝓡 code.env #next next-def.routine code.calls-verdict·next-verdict
     (next-thm.met 𝓤 H 𝓜 𝓖 𝓡)))

@@ -29,7 +29,7 @@ use denote.Triple.Walked.{says}
 use Rattle.published.specs.Picture.{areaSize}
 use Rattle.answers.specs.declared.Verified.{Verified}
 use Rattle.layout.specs.Layout.{rowBytes, messageBytes, headerBytes, tapeQ}
-use Rattle.verifying.specs.Inside.{totalOf}
+use Rattle.verdict.specs.RowByRow.{totalOf}
 use Rattle.answers.proofs.Record as T
 use Rattle.answers.proofs.Record.Laws as T′
 use Rattle.answers.proofs.Verified as S

@@ -26,12 +26,12 @@ use Rattle.lists.specs.Tables.{tab}
 use Rattle.answers.specs.declared.Record.{Record}
 use Rattle.answers.specs.declared.Verified.{Verified}
 use Rattle.taperow.specs.Reading.{rowRecord}
-use Rattle.verifying.specs.Inside.{verdictBefore}
+use Rattle.verdict.specs.RowByRow.{verdictBefore}
 use Rattle.answers.proofs.Record as T
 use Rattle.verifying.proofs.Rounds.{worked, after, rowsRead}
-use Rattle.verifying.proofs.verdict.verdict_before as before
-use Rattle.verifying.proofs.verdict.rows_to_read as rows
-use Rattle.verifying.proofs.verdict.next_verdict as next
+use Rattle.verdict.proofs.verdict_before as before
+use Rattle.verdict.proofs.rows_to_read as rows
+use Rattle.verdict.proofs.next_verdict as next
 use Rattle.taperow.proofs.row_record as row
 use Rattle.verifying.proofs.verify as f′
 

@@ -39,11 +39,11 @@ use Rattle.answers.proofs.Verified as S
 use Rattle.answers.proofs.Verified.Laws as S′
 use Rattle.lists.proofs.Filled.{fill-none}
 use Rattle.verifying.proofs.Rounds.{worked-none, after-none}
-use Rattle.verifying.proofs.verdict.verdict_before as before
-use Rattle.verifying.proofs.verdict.verdict_before.Symbol.{name as #before}
-use Rattle.verifying.proofs.verdict.rows_to_read as rows
-use Rattle.verifying.proofs.verdict.rows_to_read.Symbol.{name as #rows}
-use Rattle.verifying.proofs.verdict.next_verdict.Symbol.{name as #next}
+use Rattle.verdict.proofs.verdict_before as before
+use Rattle.verdict.proofs.verdict_before.Symbol.{name as #before}
+use Rattle.verdict.proofs.rows_to_read as rows
+use Rattle.verdict.proofs.rows_to_read.Symbol.{name as #rows}
+use Rattle.verdict.proofs.next_verdict.Symbol.{name as #next}
 use Rattle.taperow.proofs.row_record.Symbol.{name as #row}
 use Rattle.verifying.proofs.verify.Code.Mir as code-mir
 use Rattle.verifying.proofs.verify.Proof.Ground.{Passed, word, sliceb, slicep, slicer, slicew, refe, slicee, Before, Rows}

@@ -38,7 +38,7 @@ use Rattle.voting.specs.Voting.{cleared}
 use Rattle.answers.specs.declared.Record.{Record}
 use Rattle.answers.specs.declared.Verified.{Verified}
 use Rattle.layout.specs.Layout.{tapeQ}
-use Rattle.verifying.specs.Inside.{nextVerdict}
+use Rattle.verdict.specs.RowByRow.{nextVerdict}
 use Rattle.answers.proofs.Record as T
 use Rattle.answers.proofs.Record.Laws as T′
 use Rattle.answers.proofs.Verified as S
@@ -46,8 +46,8 @@ use Rattle.answers.proofs.Verified.Laws as S′
 use Rattle.verifying.proofs.Again.{LentAgain, lends-again, comes-back}
 use Rattle.lists.proofs.Filled.{fill-next}
 use Rattle.verifying.proofs.Rounds.{worked-next, after-next}
-use Rattle.verifying.proofs.verdict.next_verdict as next
-use Rattle.verifying.proofs.verdict.next_verdict.Symbol.{name as #next}
+use Rattle.verdict.proofs.next_verdict as next
+use Rattle.verdict.proofs.next_verdict.Symbol.{name as #next}
 use Rattle.taperow.proofs.row_record as row
 use Rattle.taperow.proofs.row_record.Symbol.{name as #row}
 use Rattle.verifying.proofs.verify.Code.Mir as code-mir

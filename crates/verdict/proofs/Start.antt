@@ -1,6 +1,6 @@
 -- The verdict before the first row, check by check; and what is known where no check holds.
 -- Assumes nothing.
-use mathlib.Core.Path.{_≡_, sym, ap}
+use mathlib.Core.Path.{_≡_, refl, sym, ap}
 use mathlib.Core.Bool.{true, false, not}
 use mathlib.Core.List.{List}
 use Prim.Native.Nat.{ℕ, _+_, _*_, _≤_, _<_}
@@ -8,12 +8,18 @@ use lib.ListN.{length}
 use borrow.Author.Tests.{eq-eqb, ne-eqb, le-ltb, lt-ltb, eqb-true, ltb-false, not-false}
 use Rattle.refusals.specs.declared.Refusal.the-variants.{ShortWork, BadBlock, WrongPayload, FewRecords}
 use Rattle.refusals.proofs.Checks.{here, later, Passes, done, clear, refused, passed}
+use Rattle.published.specs.Start.{width}
 use Rattle.published.specs.Picture.{areaSize}
 use Rattle.layout.specs.Layout.{rowBytes, messageBytes, headerBytes, mostRows, tapeQ, rowCount, isBlock}
 use Rattle.layout.proofs.Headers.{sized}
-use Rattle.verifying.specs.Verification.{checksFor}
-use Rattle.verifying.specs.Inside.{verdictBefore}
+use Rattle.verdict.specs.Checks.{checksFor}
+use Rattle.verdict.specs.RowByRow.{verdictBefore}
 use Rattle.answers.specs.declared.Verified.the-variants.{Copied, Refused}
+
+-- the work area for the tape code
+pub area-is : areaSize tapeQ ≡ 1472
+unfolding areaSize width
+area-is = refl
 
 -- the verdict before any row is read: each check by its number, and that none holds
 module _ (block payload : List ℕ) (records work : ℕ) where

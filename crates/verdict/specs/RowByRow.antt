@@ -1,12 +1,11 @@
--- What the functions inside verifying answer: the verdict before the first row and after each. Document 01, "Block and
--- verification".
+-- The verdict on a block before the first row and after each. Document 01, "Block and verification".
 -- Assumes nothing.
 use mathlib.Core.Bool.{true, false}
 use mathlib.Core.List.{List}
 use Prim.Native.Nat.{ℕ, _+_}
 use lib.Dec.{eqb}
 use Rattle.refusals.specs.Numbers.{firstOf}
-use Rattle.verifying.specs.Verification.{checksFor}
+use Rattle.verdict.specs.Checks.{checksFor}
 use Rattle.answers.specs.declared.Record.{Record}
 use Rattle.answers.specs.declared.Verified.{Verified}
 use Rattle.answers.specs.declared.Verified.the-variants.{Copied, Differs, Unreadable, Refused}

@@ -1,11 +1,11 @@
 -- `block::verdict::next_verdict` meets its contract, by the state of the row.
 -- Assumes nothing.
-use Rattle.verifying.specs.Inside.{totalOf}
-use Rattle.verifying.proofs.Verdicts.{settled-stays, next-equal, next-differs, next-unreadable}
+use Rattle.verdict.specs.RowByRow.{totalOf}
+use Rattle.verdict.proofs.Verdicts.{settled-stays, next-equal, next-differs, next-unreadable}
 use native.Mathlib.Omega.{arith}
 use borrow.Author.Needs.{needs}
-use Rattle.verifying.proofs.verdict.next_verdict.Statement.{statement}
-use Rattle.verifying.proofs.verdict.next_verdict.Tie as tie
+use Rattle.verdict.proofs.next_verdict.Statement.{statement}
+use Rattle.verdict.proofs.next_verdict.Tie as tie
 
 enum-known-verdict : tie.Need-enum-known-verdict
 enum-known-verdict c = search needs

@@ -7,11 +7,10 @@ use lib.ListN.{length, getD}
 use denote.Ref.{now}
 use borrow.Author.Tests.{not-true, not-false}
 use Rattle.layout.specs.Layout.{messageBytes, rowCount, isBlock}
-use Rattle.taperow.proofs.Tape.{area-is}
-use Rattle.verifying.proofs.Start.{before-9, before-10, before-11, before-6, before-none}
+use Rattle.verdict.proofs.Start.{area-is, before-9, before-10, before-11, before-6, before-none}
 use borrow.Author.Needs.{needs}
-use Rattle.verifying.proofs.verdict.verdict_before.Statement.{statement}
-use Rattle.verifying.proofs.verdict.verdict_before.Tie as tie
+use Rattle.verdict.proofs.verdict_before.Statement.{statement}
+use Rattle.verdict.proofs.verdict_before.Tie as tie
 
 is-block-requires : tie.Need-is-block-requires
 is-block-requires c κs = search needs

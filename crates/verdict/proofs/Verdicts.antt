@@ -10,7 +10,7 @@ use lib.Dec.{eqb}
 use types.Run.{OneOf}
 use denote.Enum.Declared.{tagOf}
 use borrow.Author.Tests.{eq-eqb, ne-eqb}
-use Rattle.verifying.specs.Inside.{rowsToRead, nextVerdict}
+use Rattle.verdict.specs.RowByRow.{rowsToRead, nextVerdict}
 use Rattle.answers.specs.declared.Record.{Record}
 use Rattle.answers.specs.declared.Verified.{Verified}
 use Rattle.answers.specs.declared.Verified.the-variants.{Copied, Differs, Unreadable, Refused}

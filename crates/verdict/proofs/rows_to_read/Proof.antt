@@ -1,10 +1,10 @@
 -- `block::verdict::rows_to_read` meets its contract.
 -- Assumes nothing.
 use mathlib.Core.Path.{_∙_}
-use Rattle.verifying.proofs.Verdicts.{settled-reads-none, copied-reads-all}
+use Rattle.verdict.proofs.Verdicts.{settled-reads-none, copied-reads-all}
 use borrow.Author.Needs.{needs}
-use Rattle.verifying.proofs.verdict.rows_to_read.Statement.{statement}
-use Rattle.verifying.proofs.verdict.rows_to_read.Tie as tie
+use Rattle.verdict.proofs.rows_to_read.Statement.{statement}
+use Rattle.verdict.proofs.rows_to_read.Tie as tie
 
 enum-told : tie.Need-enum-told
 enum-told c = search needs

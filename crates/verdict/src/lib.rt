@@ -3,7 +3,7 @@ ghost use mathlib.Core.Path.{_≡_};
 ghost use Prim.Native.Nat.{ℕ, _+_, _<_, _^_};
 ghost use lib.ListN.{getD};
 ghost use Rattle.layout.specs.Layout.{rowCount};
-ghost use Rattle.verifying.specs.Inside.{verdictBefore, rowsToRead, nextVerdict, totalOf};
+ghost use Rattle.verdict.specs.RowByRow.{verdictBefore, rowsToRead, nextVerdict, totalOf};
 use answers::Record;
 use answers::Verified;
 use layout::MESSAGE_BYTES;
