@@ -1,7 +1,6 @@
 pub mod Sizes
 pub mod Ranks
 pub mod Arranged
-pub mod OrdinateSets
 pub mod MessageFunction
 pub mod RowLaws
 pub mod CodeLaws

@@ -3,6 +3,5 @@ pub mod Codes
 pub mod Rows
 pub mod Ranks
 pub mod Answers
-pub mod Ordinates
 pub mod MessageFunction
 pub mod Given

@@ -15,8 +15,8 @@ use Rattle.symbols.proofs.FieldLaws.{laws-of}
 use Rattle.symbols.proofs.Bytes.{known-high}
 use Rattle.curve.specs.Points.{pointAt}
 use Rattle.curve.specs.Codes.{pointCount}
-use Rattle.curve.specs.Ordinates.{ordinatesAbove}
-use Rattle.curve.proofs.OrdinateSets.{ordinate-at}
+use Rattle.ordinates.specs.Ordinates.{ordinatesAbove}
+use Rattle.ordinates.proofs.OrdinateSets.{ordinate-at}
 use Rattle.evaluation.specs.Stages.{IsValue, HoldsFunction, columnNumber, fibreNumber}
 
 -- the points above x number a are among all points

@@ -73,7 +73,7 @@ pub fn fill_fibre(table: &[u8], q: usize, x: usize, values: &[u8], row: &mut [u8
     requires { ⌜ Known q × (x < q * q) × (length (now values) ≡ mostQ) × (pointCount q ≤ length (now row)) × HasProducts q (now table) ⌝ }
     ensures { λ r. ⌜ IsFibre q x (now (values .entry)) (now (row .entry)) (now (row .exit)) ⌝ }
 {
-    let ordinates = curve::ordinates(q, symbols::products_in(table, q, x as u8));
+    let ordinates = ordinates::ordinates(q, symbols::products_in(table, q, x as u8));
     let start = x * q;
     let mut b = 0;
     while b < q {

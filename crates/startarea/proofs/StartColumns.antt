@@ -23,9 +23,9 @@ use Rattle.symbols.proofs.FieldLaws.{laws-of}
 use Rattle.symbols.proofs.Bytes.{number-of-difference, cube-small}
 use Rattle.curve.specs.Points.{pointAt}
 use Rattle.curve.specs.Codes.{pointCount}
-use Rattle.curve.specs.Ordinates.{ordinatesAbove}
+use Rattle.ordinates.specs.Ordinates.{ordinatesAbove}
 use Rattle.curve.proofs.Arranged.{points-arranged}
-use Rattle.curve.proofs.OrdinateSets.{ordinate-at}
+use Rattle.ordinates.proofs.OrdinateSets.{ordinate-at}
 use Rattle.published.specs.Start.{width, term, h}
 use Rattle.published.proofs.StartLeads.{h-within, h-past}
 use Rattle.workarea.specs.Area.{rowPlace, Cells, shown, Turns, withRows}

@@ -63,7 +63,7 @@ fn column_sums(table: &[u8], q: usize, row: &[u8], a: usize) -> [u8; MOST_SYMBOL
     requires { ⌜ a < q * q ⌝ }
     ensures { λ r. ⌜ Holds q r q (columnSum q (now (row .entry)) a q) ⌝ }
 {
-    let ordinates = curve::ordinates(q, symbols::products_in(table, q, a as u8));
+    let ordinates = ordinates::ordinates(q, symbols::products_in(table, q, a as u8));
     let mut sums = [0u8; MOST_SYMBOLS];
     for b in 0..q {
         let products = symbols::products_in(table, q, ordinates[b]);

@@ -12,9 +12,9 @@ use Rattle.algebra.specs.Symbols.{same, power}
 use Rattle.lists.specs.Tables.{from, tab, keep}
 use Rattle.symbols.specs.Rule.{Known, size, reducedBy, sumOf, differenceOf, twice, chosen, product, Below, into, symbols, number}
 use Rattle.symbols.proofs.Tested.{all, all-at}
 use Rattle.curve.specs.Points.{Point, onCurve, pair, points, pointAt}
-use Rattle.curve.specs.Ordinates.{sets4, setPlace, sets2, ordinateSet, ordinatesAbove}
+use Rattle.ordinates.specs.Ordinates.{sets4, setPlace, sets2, ordinateSet, ordinatesAbove}
 use Rattle.curve.proofs.Arranged.{at}
 
 -- there are four sets
 pub place-small : (norm : ℕ) → setPlace norm < 4

@@ -1,8 +1,8 @@
 -- `curve::set_place` meets its contract. Assumes nothing.
 use borrow.Author.Tests.{ne-eqb}
-use Rattle.curve.specs.Ordinates.{setPlace}
-use Rattle.curve.proofs.set_place.Statement.{statement}
-use Rattle.curve.proofs.set_place.Tie as tie
+use Rattle.ordinates.specs.Ordinates.{setPlace}
+use Rattle.ordinates.proofs.set_place.Statement.{statement}
+use Rattle.ordinates.proofs.set_place.Tie as tie
 
 returns : tie.Need-returns
 unfolding setPlace

@@ -11,8 +11,8 @@ use Rattle.symbols.specs.Tables.{productRow}
 use Rattle.symbols.proofs.FieldLaws.{laws-of}
 use Rattle.symbols.proofs.Bytes.{known-high}
 use Rattle.symbols.proofs.TableRules.{row-number}
-use Rattle.curve.proofs.norm.Statement.{statement}
-use Rattle.curve.proofs.norm.Tie as tie
+use Rattle.ordinates.proofs.norm.Statement.{statement}
+use Rattle.ordinates.proofs.norm.Tie as tie
 
 abbrev Inv-loop : tie.InvT-loop
 Inv-loop q products value₀ i₀ value i =

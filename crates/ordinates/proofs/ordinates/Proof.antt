@@ -2,10 +2,10 @@
 use native.Mathlib.Omega.{arith}
 use borrow.Author.Needs.{needs}
 use borrow.Author.Tests.{eq-eqb, ne-eqb}
-use Rattle.curve.specs.Ordinates.{sets4, sets2, ordinateSet, ordinatesAbove}
-use Rattle.curve.proofs.OrdinateSets.{place-small}
-use Rattle.curve.proofs.ordinates.Statement.{statement}
-use Rattle.curve.proofs.ordinates.Tie as tie
+use Rattle.ordinates.specs.Ordinates.{sets4, sets2, ordinateSet, ordinatesAbove}
+use Rattle.ordinates.proofs.OrdinateSets.{place-small}
+use Rattle.ordinates.proofs.ordinates.Statement.{statement}
+use Rattle.ordinates.proofs.ordinates.Tie as tie
 
 norm-requires : tie.Need-norm-requires
 norm-requires c κs = search needs
