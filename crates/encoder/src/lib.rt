@@ -25,7 +25,7 @@ pub fn encode_row(code: Code, message: &[u8], row: &mut [u8])
     let u = code.u;
     let places = spread(q, u, message);
     let width = u / q + 1;
-    let table = symbols::table_of(q);
+    let table = products::table_of(q);
     let mut x = 0;
     while x < q * q {
         let values = column(&table, q, x as u8, &places, width);

@@ -56,7 +56,7 @@ pub fn column(table: &[u8], q: usize, x: u8, places: &[u8], width: usize) -> [u8
     requires { ⌜ Known q × (0 < width) × (width ≤ mostSymbols) × (length (now places) ≡ mostPoints) × HasProducts q (now table) ⌝ }
     ensures { λ r. ⌜ IsColumn q width x (now (places .entry)) r ⌝ }
 {
-    let products = symbols::products_in(table, q, x);
+    let products = products::products_in(table, q, x);
     let mut values = [0u8; MOST_Q];
     let mut j = 0;
     while j < q {
@@ -73,11 +73,11 @@ pub fn fill_fibre(table: &[u8], q: usize, x: usize, values: &[u8], row: &mut [u8
     requires { ⌜ Known q × (x < q * q) × (length (now values) ≡ mostQ) × (pointCount q ≤ length (now row)) × HasProducts q (now table) ⌝ }
     ensures { λ r. ⌜ IsFibre q x (now (values .entry)) (now (row .entry)) (now (row .exit)) ⌝ }
 {
-    let ordinates = ordinates::ordinates(q, symbols::products_in(table, q, x as u8));
+    let ordinates = ordinates::ordinates(q, products::products_in(table, q, x as u8));
     let start = x * q;
     let mut b = 0;
     while b < q {
-        let products = symbols::products_in(table, q, ordinates[b]);
+        let products = products::products_in(table, q, ordinates[b]);
         row[start + b] = value_in(q, &products, &values[..q]);
         b += 1;
     }

@@ -63,10 +63,10 @@ fn column_sums(table: &[u8], q: usize, row: &[u8], a: usize) -> [u8; MOST_SYMBOL
     requires { ⌜ a < q * q ⌝ }
     ensures { λ r. ⌜ Holds q r q (columnSum q (now (row .entry)) a q) ⌝ }
 {
-    let ordinates = ordinates::ordinates(q, symbols::products_in(table, q, a as u8));
+    let ordinates = ordinates::ordinates(q, products::products_in(table, q, a as u8));
     let mut sums = [0u8; MOST_SYMBOLS];
     for b in 0..q {
-        let products = symbols::products_in(table, q, ordinates[b]);
+        let products = products::products_in(table, q, ordinates[b]);
         let received = row[a * q + b];
         let more = add_part(sums, q, q, products, received, received);
         sums = more;
@@ -101,11 +101,11 @@ fn subtract_column(table: &[u8], work: &mut [u8], q: usize, row: &[u8], a: usize
     ensures { λ _. ⌜ Turns q (now (work .entry)) (now (work .exit)) (rowsMinus q q q q (columnOf q (now (row .entry)) a)) ⌝ }
 {
     let sums = column_sums(table, q, row, a);
-    let powers = symbols::products_in(table, q, a as u8);
+    let powers = products::products_in(table, q, a as u8);
     let minus_one = symbols::difference(q, 0, 1);
     let values = add_part([0u8; MOST_SYMBOLS], q, q * q, powers, 1, minus_one);
     for j in 0..q {
-        let products = symbols::products_in(table, q, sums[j]);
+        let products = products::products_in(table, q, sums[j]);
         let to = workarea::row_place(q, q, q + j);
         subtract_values(work, q, to, q * q, values, products);
     }
@@ -138,7 +138,15 @@ fn add_multiple(work: &mut [u8], q: usize, first: usize, row: usize, i: usize)
     };
     let width = workarea::width_of(q);
     let powers = Powers { x: 0, y: i };
-    substitution::add_product(work, q, to, from, width, powers, symbols::products_of(q, 1));
+    substitution::add_product(
+        work,
+        q,
+        to,
+        from,
+        width,
+        powers,
+        products::products_of(q, 1),
+    );
 }
 
 // Makes g_i and f_i of g_0 and f_0; g_i has no upper part.

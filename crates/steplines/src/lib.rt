@@ -26,7 +26,7 @@ pub fn put_steps(out: &mut [u8], at: usize, q: usize, u: usize, work: &mut [u8])
         → Wrote (now (out .entry)) at (stepLines q u row (stepCount q)) (now (out .exit)) r) ⌝ }
 {
     let count = step_count(q);
-    let table = symbols::table_of(q);
+    let table = products::table_of(q);
     let mut heights = start_heights(q);
     let mut next = at;
     for t in 0..count {

@@ -59,7 +59,7 @@ pub fn advance(code: Code, steps: usize, row: &[u8], work: &mut [u8], votes: &mu
     ensures { λ _. ⌜ now (work .exit) ≡ pictureAfter (code .q) (code .u) (now (row .entry)) steps ++ drop (areaSize (code .q)) (now (work .entry)) ⌝ }
     ensures { λ _. ⌜ now (votes .exit) ≡ votesAfter (code .q) (code .u) (now (row .entry)) steps ++ drop (dimension (code .q) (code .u)) (now (votes .entry)) ⌝ }
 {
-    let table = symbols::table_of(code.q);
+    let table = products::table_of(code.q);
     startarea::begin(&table, code.q, row, work);
     workarea::clear(votes, code.k);
     take_steps(&table, code, steps, work, votes);

@@ -74,7 +74,7 @@ fn in_voted_step(
     if 0 <= k {
         let negative = negative_at(work, q, i, partner, k);
         return NamedSymbol {
-            w: symbols::product_in(table, q, negative, symbols::inverse(q, lead)),
+            w: products::product_in(table, q, negative, symbols::inverse(q, lead)),
             mu: lead,
         };
     }

@@ -171,6 +171,6 @@ pub fn substitute(table: &[u8], work: &mut [u8], q: usize, heights: &[usize], s:
     let Monomial::Powers { x, y } = monomial else {
         return;
     };
-    let products = symbols::products_in(table, q, vote);
+    let products = products::products_in(table, q, vote);
     replace_z(work, q, heights, Powers { x, y }, products);
 }

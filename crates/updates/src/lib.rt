@@ -80,9 +80,9 @@ fn ratio_of(table: &[u8], q: usize, vote: u8, w: u8, mu: u8, nu: u8) -> u8
         → r ≡ number q (ratio (symbols q) q ω P)) ⌝ }
 {
     let difference = symbols::difference(q, vote, w);
-    let product = symbols::product_in(table, q, mu, difference);
+    let product = products::product_in(table, q, mu, difference);
     let inverse = symbols::inverse(q, nu);
-    symbols::product_in(table, q, product, inverse)
+    products::product_in(table, q, product, inverse)
 }
 
 // What pair i does after the substitution: an exchange where c > 0, else f_i is reduced, with -c for the shift.
@@ -108,7 +108,7 @@ fn change(
         return;
     }
     let ratio = ratio_of(table, q, vote, w, pair.mu, pair.nu);
-    let products = symbols::products_in(table, q, ratio);
+    let products = products::products_in(table, q, ratio);
     let f = q + i;
     let g = pair.partner;
     let c = pair.c;

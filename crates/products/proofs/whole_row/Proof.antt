@@ -10,10 +10,10 @@ use denote.Ref.{now}
 use borrow.Author.Needs.{needs}
 use Rattle.lists.specs.Tables.{put}
 use Rattle.lists.proofs.Put.{put-none, put-next, put-out}
 use Rattle.symbols.specs.Sizes.{mostSymbols}
 use Rattle.symbols.specs.Tables.{placesOn}
-use Rattle.symbols.proofs.whole_row.Statement.{statement}
-use Rattle.symbols.proofs.whole_row.Tie as tie
+use Rattle.products.proofs.whole_row.Statement.{statement}
+use Rattle.products.proofs.whole_row.Tie as tie
 
 abbrev Inv-loop : tie.InvT-loop
 Inv-loop table start row₀ i₀ row i = (i ≤ mostSymbols) × (row ≡ put (replicate mostSymbols 0) 0 i (placesOn table start))

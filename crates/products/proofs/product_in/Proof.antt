@@ -1,11 +1,11 @@
 -- `symbols::product_in` meets its contract. Assumes nothing.
 use Rattle.symbols.specs.Rule.{size}
 use Rattle.symbols.specs.Tables.{productNumber}
 use Rattle.symbols.proofs.Bytes.{known-other}
 use Rattle.symbols.proofs.TableRules.{product-of-list}
 use borrow.Author.Needs.{needs}
-use Rattle.symbols.proofs.product_in.Statement.{statement}
-use Rattle.symbols.proofs.product_in.Tie as tie
+use Rattle.products.proofs.product_in.Statement.{statement}
+use Rattle.products.proofs.product_in.Tie as tie
 
 cast-result : tie.Need-cast-result
 cast-result c = search needs
