@@ -1,7 +1,7 @@
 // The line of a step, from the work area after it.
 use report::put_step;
+use steppairs::leading_of;
 use stepvotes::is_voted;
-use stepvotes::leading_of;
 use symbols::MOST_POLYNOMIALS;
 ghost use mathlib.Core.Path.{_≡_};
 ghost use Prim.Native.Nat.{_+_, _*_, _≤_, _<_};

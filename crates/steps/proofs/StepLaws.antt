@@ -15,10 +15,10 @@ use Rattle.published.specs.Meaning.{voteOn}
 use Rattle.published.proofs.VotedWeights.{voted-no-gap}
 use Rattle.workarea.specs.Area.{cellsOf, Starts, Narrow, Becomes}
 use Rattle.workarea.specs.Heights.{WithinHeights, BecomesBelow}
-use Rattle.stepvotes.specs.Pairs.{NumbersOf, pairAt}
+use Rattle.pair.specs.Pairs.{NumbersOf, pairAt}
 use Rattle.steps.specs.Stop.{stateAfter, pictureAfter}
 use Rattle.steps.specs.Step.{voteAfter, Stepped, BelowAfter}
-use Rattle.stepvotes.specs.declared.pairs.Pair.{Pair}
+use Rattle.pair.specs.declared.Pair.{Pair}
 use Rattle.workarea.proofs.Cells.{picture-is}
 use Rattle.workarea.proofs.Becoming.{becomes-then}
 use Rattle.steps.proofs.NarrowLaws.{narrow-after}

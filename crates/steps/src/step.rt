@@ -44,7 +44,7 @@ pub fn take_step(
 {
     let s = start_weight(q) - done;
     let voted = stepvotes::is_voted(q, u, s);
-    let pairs = stepvotes::pairs_of(table, &work[..], q, &heights[..], s, voted);
+    let pairs = steppairs::pairs_of(table, &work[..], q, &heights[..], s, voted);
     let vote = stepvotes::vote_of(pairs, q, voted);
     substitution::substitute(table, work, q, &heights[..], s, vote);
     updates::change_all(table, work, q, heights, pairs, vote);

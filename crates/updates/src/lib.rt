@@ -1,5 +1,5 @@
 // The update of a pair: one polynomial reduced by another, or both exchanged.
-use stepvotes::Pair;
+use pair::Pair;
 use symbols::MOST_Q;
 use symbols::MOST_SYMBOLS;
 use workarea::MINUS;
@@ -16,7 +16,7 @@ ghost use Rattle.published.specs.Steps.{ratio, changed, updated};
 ghost use Rattle.workarea.specs.Area.{Area, cellsOf, Turns, Multiplies};
 ghost use Rattle.updates.specs.Updates.{rowHeight, polynomialReduced, polynomialsExchanged};
 ghost use Rattle.workarea.specs.Heights.{Heights, WithinHeights, BecomesBelow};
-ghost use Rattle.stepvotes.specs.Pairs.{Held, NumbersOf, pairAt};
+ghost use Rattle.pair.specs.Pairs.{Held, NumbersOf, pairAt};
 
 // How many symbols of row r are subtracted: of an upper row no more than there are.
 fn row_height(q: usize, r: usize, height: usize) -> usize

@@ -6,7 +6,7 @@ use lib.IntN.{natAbs}
 use Rattle.symbols.specs.Rule.{symbols}
 use Rattle.published.specs.Pairing.{positivePart, negativePart}
 use Rattle.published.specs.Steps.{ratio}
-use Rattle.stepvotes.proofs.Signed.{back, cast-fits, positive-yes, positive-no, minus-fits, minus-value, minus-cast}
+use Rattle.pair.proofs.Signed.{back, cast-fits, positive-yes, positive-no, minus-fits, minus-value, minus-cast}
 use Rattle.workarea.proofs.Multipliers.{multiplies-symbol}
 use Rattle.workarea.proofs.Becoming.{becomes-same}
 use Rattle.updates.proofs.ChangeLaws.{unchanged, changed-raised, changed-reduced}

@@ -11,7 +11,7 @@ use Rattle.published.specs.Pairing.{Pairing}
 use Rattle.published.specs.Steps.{updated}
 use Rattle.workarea.specs.Area.{cellsOf}
 use Rattle.workarea.specs.Heights.{Heights, WithinHeights, BecomesBelow}
-use Rattle.stepvotes.specs.Pairs.{NumbersOf, pairAt}
+use Rattle.pair.specs.Pairs.{NumbersOf, pairAt}
 use Rattle.workarea.proofs.Cells.{still}
 use Rattle.workarea.proofs.Becoming.{becomes-same, becomes-below}
 use Rattle.updates.proofs.ChangeLaws.{updated-none, updated-more}
