@@ -1,4 +1,3 @@
-pub mod Same
 pub mod Tape
 pub mod Outcomes
 pub mod NearRows

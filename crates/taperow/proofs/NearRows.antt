@@ -20,7 +20,8 @@ use Rattle.layout.specs.Layout.{tapeQ, tapeU, tapeReach, rowLength, headerBytes
 use Rattle.layout.proofs.Reading.{row-part}
 use Rattle.laying.specs.Laying.{codeRow}
 use Rattle.laying.proofs.TapeCode.{known-tape, a-code, points-are, reach-is}
-use Rattle.taperow.specs.Reading.{outcome, rowRecord}
+use Rattle.taperow.specs.Reading.{rowRecord}
+use Rattle.rowstate.specs.Outcome.{outcome}
 
 -- the symbols of a row of bytes are a full row
 pub row-of : (block : List ℕ) → ((i : ℕ) → getD block i 0 < 256) → (r : ℕ) → Received tapeQ tapeU (blockRow block r)

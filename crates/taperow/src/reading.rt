@@ -8,13 +8,8 @@ ghost use Rattle.symbols.specs.Rule.{anyBeyond};
 ghost use Rattle.published.specs.Picture.{areaSize};
 ghost use Rattle.voting.specs.Voting.{voted, cleared};
 ghost use Rattle.decoder.specs.Decoding.{decoded, ifAccepted};
-ghost use Rattle.packing.specs.Packing.{unpacked};
 ghost use Rattle.layout.specs.Layout.{tapeQ, tapeU, rowLength, messageLength, rowBytes, messageBytes, headerBytes, blockRow};
-ghost use Rattle.lists.specs.Same.{sameList};
 ghost use Rattle.taperow.specs.Reading.{rowRecord, judgedRecord};
-use crate::EQUAL;
-use crate::OTHER_MESSAGE;
-use crate::UNREADABLE;
 use answers::Decoded;
 use answers::Record;
 use layout::FIRST_END;
@@ -26,6 +21,7 @@ use layout::ROW_LENGTH;
 use layout::TAPE_Q;
 use layout::TAPE_U;
 use packing::unpack;
+use rowstate::record_of;
 
 // The symbols of row r of a block, gathered from where they stand: byte 8 + 32r on.
 fn gather_row(block: &[u8], r: usize, symbols: &mut [u8])
@@ -51,31 +47,6 @@ fn read_row(symbols: &[u8], work: &mut [u8], message: &mut [u8]) -> Decoded
     decoder::decode(TAPE_Q, TAPE_U, symbols, work, message, &mut corrected)
 }
 
-// Whether two lists have the same symbols.
-fn same_symbols(left: &[u8], right: &[u8]) -> bool
-    requires { ⌜ length (now left) ≡ length (now right) ⌝ }
-    ensures { λ r. ⌜ r ≡ sameList (now (left .entry)) (now (right .entry)) ⌝ }
-{
-    let mut i = 0;
-    while i < left.len() {
-        if left[i] != right[i] {
-            return false;
-        }
-        i += 1;
-    }
-    true
-}
-
-// Whether a message is the one that 20 bytes of a payload hold.
-fn is_original(message: &[u8], original: &[u8]) -> bool
-    requires { ⌜ (length (now message) ≡ messageLength) × (length (now original) ≡ messageBytes) ⌝ }
-    ensures { λ r. ⌜ r ≡ sameList (now (message .entry)) (unpacked (now (original .entry)) messageLength) ⌝ }
-{
-    let mut expected = [0u8; MESSAGE_LENGTH];
-    unpack(original, &mut expected);
-    same_symbols(message, &expected)
-}
-
 // Judges a row's symbols: its record, against the 20 bytes of its message in the payload.
 fn judge_row(symbols: &[u8], original: &[u8], work: &mut [u8]) -> Record
     requires { ⌜ (length (now symbols) ≡ rowLength) × (anyBeyond tapeQ (now symbols) ≡ false) ⌝ }
@@ -85,21 +56,7 @@ fn judge_row(symbols: &[u8], original: &[u8], work: &mut [u8]) -> Record
 {
     let mut message = [0u8; MESSAGE_LENGTH];
     let answer = read_row(symbols, work, &mut message);
-    let Decoded::Accepted(count) = answer else {
-        return Record {
-            state: UNREADABLE,
-            count: 0,
-        };
-    };
-    let state = if is_original(&message, original) {
-        EQUAL
-    } else {
-        OTHER_MESSAGE
-    };
-    Record {
-        state,
-        count: count as u8,
-    }
+    record_of(answer, &message, original)
 }
 
 // The record of row r, which starts at byte 8 + 32r of the block and at byte 20r of the payload.

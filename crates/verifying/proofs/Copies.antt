@@ -22,7 +22,8 @@ use Rattle.voting.specs.Voting.{voted}
 use Rattle.decoder.specs.Decoding.{decoded}
 use Rattle.layout.specs.Layout.{tapeQ, tapeU, rowCount, blockRow, payloadRow}
 use Rattle.lists.specs.Same.{sameList}
-use Rattle.taperow.specs.Reading.{outcome, rowRecord}
+use Rattle.taperow.specs.Reading.{rowRecord}
+use Rattle.rowstate.specs.Outcome.{outcome}
 use Rattle.verifying.specs.Verification.{verdictFrom, allRecords, verifyChecks, verifyAnswer}
 use Rattle.verdict.specs.Checks.{checksFor}
 use Rattle.verifying.specs.AsBytes.{byteChecks, verifyBytesAnswer}

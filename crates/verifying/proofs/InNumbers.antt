@@ -15,7 +15,8 @@ use Rattle.refusals.proofs.Checks.{made-of}
 use Rattle.answers.specs.declared.Decoded.{Decoded}
 use Rattle.answers.specs.declared.Decoded.the-variants.{Accepted, Refused as Declined}
 use Rattle.answers.specs.declared.Record.{Record}
-use Rattle.taperow.specs.Reading.{outcome, rowRecord}
+use Rattle.taperow.specs.Reading.{rowRecord}
+use Rattle.rowstate.specs.Outcome.{outcome}
 use Rattle.layout.specs.Layout.{rowCount}
 use Rattle.answers.specs.declared.Verified.{Verified}
 use Rattle.answers.specs.declared.Verified.the-variants.{Differs, Unreadable, Refused}

@@ -1,4 +1,4 @@
--- `taperow::reading::same_symbols` meets its contract: what is left to compare decides.
+-- `rowstate::same_symbols` meets its contract: what is left to compare decides.
 -- Assumes nothing.
 use mathlib.Core.Path.{_≡_, sym, _∙_}
 use Prim.Native.Nat.{_-_, _≤_}
@@ -6,9 +6,9 @@ use native.Mathlib.Omega.{arith}
 use lib.ListN.{length, drop}
 use borrow.Author.Needs.{needs}
 use Rattle.lists.specs.Same.{sameList}
-use Rattle.taperow.proofs.Same.{same-next, same-not, same-all}
-use Rattle.taperow.proofs.reading.same_symbols.Statement.{statement}
-use Rattle.taperow.proofs.reading.same_symbols.Tie as tie
+use Rattle.rowstate.proofs.Same.{same-next, same-not, same-all}
+use Rattle.rowstate.proofs.same_symbols.Statement.{statement}
+use Rattle.rowstate.proofs.same_symbols.Tie as tie
 
 abbrev Inv-loop : tie.InvT-loop
 Inv-loop left right i₀ i = (i ≤ length left) × (sameList left right ≡ sameList (drop i left) (drop i right))

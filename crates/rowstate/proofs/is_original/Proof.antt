@@ -1,9 +1,9 @@
--- `taperow::reading::is_original` meets its contract.
+-- `rowstate::is_original` meets its contract.
 -- Assumes nothing.
 use mathlib.Core.Path.{_∙_}
 use borrow.Author.Needs.{needs}
-use Rattle.taperow.proofs.reading.is_original.Statement.{statement}
-use Rattle.taperow.proofs.reading.is_original.Tie as tie
+use Rattle.rowstate.proofs.is_original.Statement.{statement}
+use Rattle.rowstate.proofs.is_original.Tie as tie
 
 slice-aggregate-unpack : tie.Need-slice-aggregate-unpack
 slice-aggregate-unpack c = search needs
