@@ -1,8 +1,11 @@
-# Sourced by the scripts here: the kit's compiler, linker and C library, found from `rt`, and where built things go.
+# Sourced by the scripts here: the kit's compiler, linker and C library, found from `rt`, and where built things go: to target/, or
+# where TESTS_MADE says.
 # Programs are for x86-64; on another processor the kit's emulator runs them.
 root=$(cd "$(dirname "${BASH_SOURCE[0]}")/.." && pwd)
 tests=$root/tests
-built=$root/target/tests
+made=${TESTS_MADE:-$root/target}
+built=$made/tests
+release=$made/cargo/release
 archive=$root/target/staticlib/libtape.a
 kit=$(dirname "$(dirname "$(readlink -f "$(command -v rt)")")")
 tools=$kit/on/$(uname -m)/toolchain
