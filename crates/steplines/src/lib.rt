@@ -1,8 +1,8 @@
 // The lines of a row's steps, made while the steps are taken: one step and its line after the other.
+use heights::start_heights;
 use leading::put_step_line;
 use steps::step_count;
 use steps::take_step;
-use workarea::start_heights;
 
 mod leading;
 

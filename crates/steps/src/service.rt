@@ -45,7 +45,7 @@ fn take_steps(table: &[u8], code: Code, steps: usize, work: &mut [u8], votes: &m
     let q = code.q;
     let u = code.u;
     let mut left = code.k;
-    let mut heights = workarea::start_heights(q);
+    let mut heights = heights::start_heights(q);
     for done in 0..steps {
         let vote = step::take_step(table, q, u, done, work, &mut heights);
         left = note_vote(q, u, done, left, vote, votes);

@@ -115,12 +115,12 @@ fn change(
     if 0 < c {
         let shift = c as usize;
         exchange_polynomials(work, q, f, g, shift, products);
-        workarea::exchange_heights(heights, q, f, g, shift);
+        heights::exchange_heights(heights, q, f, g, shift);
         return;
     }
     let shift = -c as usize;
     reduce_polynomial(work, q, f, g, heights[g], shift, products);
-    workarea::add_heights(heights, q, f, g, shift);
+    heights::add_heights(heights, q, f, g, shift);
 }
 
 // The update of all pairs.

@@ -1,5 +1,4 @@
 // Rows of the work area by polynomial and row: the only functions that work out where a row stands.
-use crate::heights;
 use crate::rows;
 use symbols::MOST_SYMBOLS;
 ghost use mathlib.Core.Path.{_≡_};
@@ -8,6 +7,7 @@ ghost use lib.ListN.{length};
 ghost use Rattle.symbols.specs.Rule.{Known, Sym};
 ghost use Rattle.published.specs.Start.{width};
 ghost use Rattle.published.specs.Picture.{areaSize};
+ghost use Rattle.workarea.specs.Heights.{smaller as Heights·smaller};
 ghost use Rattle.workarea.specs.Area.{Area, TwoRows, Reach, rowPlace, Turns, Multiplies, symbolsMade, rowMade, rowExchanged};
 
 // What a change of a row does with a multiple of another one.
@@ -46,6 +46,13 @@ pub fn row_place(q: usize, p: usize, r: usize) -> usize
     (p * (2 * q) + r) * width_of(q)
 }
 
+// The smaller of two numbers.
+pub fn smaller(a: usize, b: usize) -> usize
+    ensures { λ n. ⌜ n ≡ Heights·smaller a b ⌝ }
+{
+    if a <= b { a } else { b }
+}
+
 // The bytes of two rows that take part in a sum or a difference: where they start, and how many there are.
 struct Run {
     to: usize,
@@ -68,7 +75,7 @@ fn run_of(q: usize, to: Row, from: Row, height: usize, shift: usize) -> Run
             count: 0,
         };
     }
-    let count = heights::smaller(height, width - shift);
+    let count = smaller(height, width - shift);
     Run {
         to: target + shift,
         from: source,

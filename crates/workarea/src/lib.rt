@@ -1,6 +1,5 @@
-// The lent work area: where its rows stand, what is done to the bytes of rows, and the heights of the upper parts.
+// The lent work area: where its rows stand, and what is done to the bytes of rows.
 mod area;
-mod heights;
 mod rows;
 
 pub use area::MINUS;
@@ -10,8 +9,6 @@ pub use area::area_size;
 pub use area::change_row;
 pub use area::exchange_row;
 pub use area::row_place;
+pub use area::smaller;
 pub use area::width_of;
-pub use heights::add_heights;
-pub use heights::exchange_heights;
-pub use heights::start_heights;
 pub use rows::clear;

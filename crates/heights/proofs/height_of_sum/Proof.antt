@@ -1,10 +1,10 @@
 -- The smaller and the larger put together.
 -- Assumes nothing.
 use mathlib.Core.Path.{_∙_}
 use Rattle.workarea.specs.Heights.{heightOfSum}
 use borrow.Author.Needs.{needs}
-use Rattle.workarea.proofs.heights.height_of_sum.Statement.{statement}
-use Rattle.workarea.proofs.heights.height_of_sum.Tie as tie
+use Rattle.heights.proofs.height_of_sum.Statement.{statement}
+use Rattle.heights.proofs.height_of_sum.Tie as tie
 
 width-of-requires : tie.Need-width-of-requires
 width-of-requires c κs = search needs

@@ -8,9 +8,9 @@ use borrow.Author.Needs.{needs}
 use Rattle.symbols.specs.Sizes.{mostPolynomials}
 use Rattle.lists.proofs.Put.{set-holds}
 use Rattle.lists.proofs.Tables.{replicate-at}
 use Rattle.workarea.proofs.Sizes.{sizes}
-use Rattle.workarea.proofs.heights.start_heights.Statement.{statement}
-use Rattle.workarea.proofs.heights.start_heights.Tie as tie
+use Rattle.heights.proofs.start_heights.Statement.{statement}
+use Rattle.heights.proofs.start_heights.Tie as tie
 
 -- what stands at place n
 record Placed (q n height : ℕ) : Type 0 where

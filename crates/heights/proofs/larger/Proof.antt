@@ -2,9 +2,9 @@
 -- Assumes nothing.
 use mathlib.Core.Path.{sym}
 use native.Mathlib.Omega.{arith}
 use Rattle.workarea.proofs.HeightLaws.{larger-first, larger-second}
-use Rattle.workarea.proofs.heights.larger.Statement.{statement}
-use Rattle.workarea.proofs.heights.larger.Tie as tie
+use Rattle.heights.proofs.larger.Statement.{statement}
+use Rattle.heights.proofs.larger.Tie as tie
 
 returns : tie.Need-returns
 returns c = sym (larger-second _ _ (c .if1 .taken))

@@ -3,8 +3,8 @@
 use mathlib.Core.Path.{sym}
 use native.Mathlib.Omega.{arith}
 use Rattle.workarea.proofs.HeightLaws.{smaller-first, smaller-second}
-use Rattle.workarea.proofs.heights.smaller.Statement.{statement}
-use Rattle.workarea.proofs.heights.smaller.Tie as tie
+use Rattle.workarea.proofs.area.smaller.Statement.{statement}
+use Rattle.workarea.proofs.area.smaller.Tie as tie
 
 returns : tie.Need-returns
 returns c = sym (smaller-first _ _ (c .if1 .taken))

@@ -1,11 +1,11 @@
 -- The sum of the definition in the place of f.
 -- Assumes nothing.
 use native.Mathlib.Omega.{arith}
 use Rattle.workarea.specs.Heights.{heightsAdded}
 use Rattle.workarea.proofs.Sizes.{sizes}
 use borrow.Author.Needs.{needs}
-use Rattle.workarea.proofs.heights.add_heights.Statement.{statement}
-use Rattle.workarea.proofs.heights.add_heights.Tie as tie
+use Rattle.heights.proofs.add_heights.Statement.{statement}
+use Rattle.heights.proofs.add_heights.Tie as tie
 
 mul-height-of-sum : tie.Need-mul-height-of-sum
 mul-height-of-sum c = search needs

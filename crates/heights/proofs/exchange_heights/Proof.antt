@@ -2,11 +2,11 @@
 -- Assumes nothing.
 use native.Mathlib.Omega.{arith}
 use lib.ListN.{length-set}
 use Rattle.workarea.specs.Heights.{heightsExchanged}
 use Rattle.workarea.proofs.Sizes.{sizes}
 use borrow.Author.Needs.{needs}
-use Rattle.workarea.proofs.heights.exchange_heights.Statement.{statement}
-use Rattle.workarea.proofs.heights.exchange_heights.Tie as tie
+use Rattle.heights.proofs.exchange_heights.Statement.{statement}
+use Rattle.heights.proofs.exchange_heights.Tie as tie
 
 mul-old : tie.Need-mul-old
 mul-old c = search needs

@@ -1,18 +1,10 @@
 // The heights of the upper parts: kept while the polynomials change, never searched for.
-use crate::area;
 use symbols::MOST_POLYNOMIALS;
 ghost use mathlib.Core.Path.{_≡_};
 ghost use Prim.Native.Nat.{_+_, _*_, _<_, _≤_};
 ghost use Rattle.symbols.specs.Sizes.{mostShift};
 ghost use Rattle.symbols.specs.Rule.{Known};
-ghost use Rattle.workarea.specs.Heights.{Heights, smaller as Heights·smaller, larger as Heights·larger, heightOfSum, heightsAdded, heightsExchanged, AtStart};
-
-// The smaller of two numbers.
-pub fn smaller(a: usize, b: usize) -> usize
-    ensures { λ n. ⌜ n ≡ Heights·smaller a b ⌝ }
-{
-    if a <= b { a } else { b }
-}
+ghost use Rattle.workarea.specs.Heights.{Heights, larger as Heights·larger, heightOfSum, heightsAdded, heightsExchanged, AtStart};
 
 // The larger of two numbers.
 fn larger(a: usize, b: usize) -> usize
@@ -26,7 +18,7 @@ fn height_of_sum(q: usize, a: usize, b: usize) -> usize
     requires { ⌜ Known q ⌝ }
     ensures { λ n. ⌜ n ≡ heightOfSum q a b ⌝ }
 {
-    smaller(area::width_of(q), larger(a, b))
+    workarea::smaller(workarea::width_of(q), larger(a, b))
 }
 
 // The heights after polynomial f has become f - m·x^shift·g.
