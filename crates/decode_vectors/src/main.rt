@@ -62,7 +62,7 @@ fn decode_line(line: &mut [u8]) {
 fn decode_lines(text: &mut [u8]) {
     let mut at = 0;
     while at < text.len() {
-        let end = lines::line_end(text, at);
+        let end = textlines::line_end(text, at);
         decode_line(&mut text[at..end]);
         at = end;
     }

@@ -1,4 +1,4 @@
--- Numbers as text, a text written into a buffer, and the lines of a text. Bytes are in ASCII.
+-- Numbers as text, and a text written into a buffer. Bytes are in ASCII.
 -- Assumes nothing.
 use mathlib.Core.Path.{_≡_}
 use mathlib.Core.Bool.{true, false}
@@ -6,7 +6,7 @@ use mathlib.Core.List.{List, [], _∷_, _++_}
 use Prim.Native.Nat.{ℕ, zero, suc, _+_, _/_, _%_}
 use Prim.Native.Char.{code}
 use Prim.Native.String.{String}
-use lib.Dec.{ltb, eqb}
+use lib.Dec.{ltb}
 use lib.ListN.{length, take, drop}
 
 -- a text's characters
@@ -37,8 +37,3 @@ written buffer at text = take at buffer ++ (text ++ drop (at + length text) buff
 pub record Wrote (before : List ℕ) (at : ℕ) (text after : List ℕ) (next : ℕ) : Type 0 where
   pub place : next ≡ at + length text
   pub buffer : after ≡ written before at text
-
--- the first line of a text: up to its newline and with it, or the whole text where there is none
-unfoldable pub firstLine : List ℕ → List ℕ
-firstLine [] = []
-firstLine (byte ∷ text) = byte ∷ elim (eqb byte 10) [ true ↦ [] | false ↦ firstLine text ]

@@ -1,11 +1,10 @@
 // Bytes, words and decimal numbers written into a lent buffer, one after the other: each function writes at a place and
-// answers the next one. What is written at once must fit; what stands before and after it stays. And where a line of a text
-// that was read ends.
+// answers the next one. What is written at once must fit; what stands before and after it stays.
 ghost use mathlib.Core.List.{[], _∷_};
 ghost use mathlib.Core.Path.{_≡_};
 ghost use Prim.Native.Nat.{_+_, _<_, _≤_};
-ghost use lib.ListN.{length, drop};
-ghost use Rattle.lines.specs.Text.{digits, spaced, Wrote, firstLine};
+ghost use lib.ListN.{length};
+ghost use Rattle.lines.specs.Text.{digits, spaced, Wrote};
 
 // One byte.
 pub fn put_byte(buffer: &mut [u8], at: usize, byte: u8) -> usize
@@ -63,20 +62,4 @@ pub fn put_spaced(buffer: &mut [u8], at: usize, numbers: &[u8]) -> usize
         done += 1;
     }
     next
-}
-
-// Where the line that starts at a place ends: past its newline, or at the end of the text.
-pub fn line_end(text: &[u8], start: usize) -> usize
-    requires { ⌜ start < length (now text) ⌝ }
-    ensures line { λ r. ⌜ r ≡ start + length (firstLine (drop start (now (text .entry)))) ⌝ }
-    ensures within { λ r. ⌜ (start < r) × (r ≤ length (now (text .entry))) ⌝ }
-{
-    let mut i = start;
-    while i < text.len() {
-        if text[i] == b'\n' {
-            return i + 1;
-        }
-        i += 1;
-    }
-    i
 }

@@ -90,7 +90,7 @@ fn run_line(line: &mut [u8]) {
 fn run_lines(text: &mut [u8]) {
     let mut at = 0;
     while at < text.len() {
-        let end = lines::line_end(text, at);
+        let end = textlines::line_end(text, at);
         run_line(&mut text[at..end]);
         at = end;
     }

@@ -1,4 +1,4 @@
--- `lines::line_end` meets its contract. The loop's invariant: `i` is within the text and not before the start, and the line goes
+-- `textlines::line_end` meets its contract. The loop's invariant: `i` is within the text and not before the start, and the line goes
 -- on to where the line from `i` on ends. Assumes nothing.
 use mathlib.Core.Path.{_≡_}
 use Prim.Native.Nat.{_+_, _-_, _<_, _≤_}
@@ -6,9 +6,9 @@ use native.Mathlib.Omega.{arith}
 use lib.ListN.{length}
 use borrow.Author.Needs.{needs}
 use denote.Ref.{now}
-use Rattle.lines.proofs.Reading.{lineFrom, line-newline, line-goes-on, line-none}
-use Rattle.lines.proofs.line_end.Statement.{statement}
-use Rattle.lines.proofs.line_end.Tie as tie
+use Rattle.textlines.proofs.Reading.{lineFrom, line-newline, line-goes-on, line-none}
+use Rattle.textlines.proofs.line_end.Statement.{statement}
+use Rattle.textlines.proofs.line_end.Tie as tie
 
 abbrev Inv-loop : tie.InvT-loop
 Inv-loop text start i₀ i =

@@ -7,7 +7,7 @@ use native.Mathlib.Numerals.{add-one}
 use lib.ListN.{length, getD, drop}
 use lib.Seq.{drop-cons, drop-length}
 use borrow.Author.Tests.{eq-eqb, ne-eqb}
-use Rattle.lines.specs.Text.{firstLine}
+use Rattle.textlines.specs.Lines.{firstLine}
 
 -- how long the line from place i on is
 abbrev pub lineFrom : List ℕ → ℕ → ℕ
