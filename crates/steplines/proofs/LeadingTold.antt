@@ -16,7 +16,7 @@ use Rattle.published.specs.Pairing.{degreeF, degreeG}
 use Rattle.published.specs.Meaning.{weightAfter, inUpper, inLower, Leading}
 use Rattle.published.proofs.MeaningAfter.{leads-known}
 use Rattle.steps.specs.Stop.{stateAfter}
-use Rattle.steplines.specs.StepLines.{degrees}
+use Rattle.stepline.specs.StepLine.{degrees}
 
 module _ (q : ℕ) (S : Polynomials (symbols q) q) where
   abbrev fs : List ℕ

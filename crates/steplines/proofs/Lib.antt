@@ -1,4 +1,3 @@
-mod LeadingRows
 pub mod Lengths
 mod Walked
 pub mod LeadingTold

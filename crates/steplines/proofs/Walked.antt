@@ -18,7 +18,9 @@ use Rattle.published.specs.Picture.{cellNumber, picture}
 use Rattle.workarea.specs.Area.{Starts, cellsOf, numbers, shown}
 use Rattle.steps.specs.Stop.{stateAfter, pictureAfter}
 use Rattle.steps.specs.Step.{voteAfter, Stepped, BelowAfter}
-use Rattle.steplines.specs.StepLines.{voteAt, stepLine, stepLines}
+use Rattle.steplines.specs.StepLines.{stepLines}
+use Rattle.stepline.specs.StepLine.{stepLine}
+use Rattle.stepline.specs.StepLine.{voteAt}
 
 -- step t + 1 is at the start weight less t
 pub weight-is : (q t : ℕ) {count : ℕ} → count ≡ stepCount q → count - 1 - t ≡ startWeight q - t

@@ -1,11 +1,8 @@
 // The lines of a row's steps, made while the steps are taken: one step and its line after the other.
 use heights::start_heights;
-use leading::put_step_line;
+use stepline::put_step_line;
 use steps::step_count;
 use steps::take_step;
-
-mod leading;
-
 ghost use mathlib.Core.List.{List};
 ghost use Prim.Native.Nat.{ℕ, _+_, _*_, _≤_};
 ghost use lib.ListN.{length};
@@ -15,7 +12,8 @@ ghost use Rattle.published.specs.Start.{stepCount};
 ghost use Rattle.published.specs.Picture.{areaSize};
 ghost use Rattle.workarea.specs.Area.{Starts, cellsOf};
 ghost use Rattle.steps.specs.Stop.{stateAfter};
-ghost use Rattle.steplines.specs.StepLines.{stepLines, stepSize};
+ghost use Rattle.steplines.specs.StepLines.{stepLines};
+ghost use Rattle.stepline.specs.StepLine.{stepSize};
 ghost use Rattle.steplines.specs.Walk.{Started};
 
 // The lines of all steps of a row whose start stands in the work area.

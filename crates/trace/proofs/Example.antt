@@ -25,7 +25,10 @@ use Rattle.lines.specs.Text.{ascii, lastDigits, digits, spaced}
 use Rattle.request.specs.Request.{line, request, endsNumber, grown, numbersFrom, asByte, isTaken, saidBy, reading}
 use Rattle.lists.specs.Same.{sameList}
 use Rattle.report.specs.Report.{acceptLine, voteText, stepText}
-use Rattle.steplines.specs.StepLines.{voteAt, degrees, stepLine, stepLines}
+use Rattle.steplines.specs.StepLines.{stepLines}
+use Rattle.stepline.specs.StepLine.{stepLine}
+use Rattle.stepline.specs.StepLine.{degrees}
+use Rattle.stepline.specs.StepLine.{voteAt}
 use Rattle.trace.specs.Trace.{lastLine, rowLines, traceChecks, answer, answerTo, traceText}
 use Rattle.trace.specs.Example.{exampleText, examplePrinted}
 

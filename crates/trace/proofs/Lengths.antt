@@ -32,8 +32,9 @@ use Rattle.request.specs.Request.{line, Said, asks, nothing, reading}
 use Rattle.request.proofs.Written.{length-code}
 use Rattle.report.specs.Report.{refuseLine, acceptLine}
 use Rattle.report.proofs.Lengths.{length-refuse, length-accept}
-use Rattle.steplines.specs.StepLines.{stepSize}
-use Rattle.steplines.proofs.Lengths.{numbers-most, length-steps}
+use Rattle.stepline.specs.StepLine.{stepSize}
+use Rattle.steplines.proofs.Lengths.{length-steps}
+use Rattle.stepline.proofs.Lengths.{numbers-most}
 use Rattle.trace.specs.Trace.{lastLine, rowLines, traceChecks, answer, answerTo, traceText}
 use Rattle.trace.specs.Size.{firstSize, lastSize, traceSize, longestTrace}
 use Rattle.trace.proofs.Checked.{row-passes}

@@ -5,7 +5,7 @@ use lib.ListN.{length}
 use Rattle.lines.specs.Text.{digits}
 use Rattle.curve.specs.Codes.{pointCount}
 use Rattle.published.specs.Start.{stepCount}
-use Rattle.steplines.specs.StepLines.{stepSize}
+use Rattle.stepline.specs.StepLine.{stepSize}
 
 -- the first line has q, u, which is below the number of points, a space and a newline
 unfoldable pub firstSize : ℕ → ℕ

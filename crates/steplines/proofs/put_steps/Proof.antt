@@ -18,7 +18,8 @@ use Rattle.steps.specs.Stop.{stateAfter}
 use Rattle.workarea.proofs.Sizes.{area-of}
 use Rattle.workarea.proofs.HeightLaws.{start-many}
 use Rattle.steps.proofs.StartHeights.{below-start}
-use Rattle.steplines.specs.StepLines.{stepLines, stepSize}
+use Rattle.steplines.specs.StepLines.{stepLines}
+use Rattle.stepline.specs.StepLine.{stepSize}
 use Rattle.steplines.proofs.Lengths.{length-steps}
 use Rattle.steplines.proofs.Walked.{Reached, weight-is, next-state, reached-more}
 use Rattle.steplines.proofs.put_steps.Statement.{statement}

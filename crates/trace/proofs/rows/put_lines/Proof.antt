@@ -8,7 +8,7 @@ use borrow.Author.Needs.{needs}
 use lib.ListN.{length}
 use Rattle.published.specs.Start.{stepCount}
 use Rattle.request.specs.Request.{line}
-use Rattle.steplines.specs.StepLines.{stepSize}
+use Rattle.stepline.specs.StepLine.{stepSize}
 use Rattle.steplines.proofs.Lengths.{length-steps}
 use Rattle.trace.specs.Size.{traceSize, lastSize}
 use Rattle.trace.proofs.Lengths.{length-first-line}

@@ -1,4 +1,4 @@
--- `steplines::leading::read_degrees` meets its contract. The loop's invariant: the places of the rows passed hold their degrees.
+-- `stepline::read_degrees` meets its contract. The loop's invariant: the places of the rows passed hold their degrees.
 -- Assumes nothing.
 use mathlib.Core.Path.{_≡_, refl, ap, sym, _∙_}
 use Prim.Native.Nat.{ℕ, _*_, _-_, _≤_}
@@ -10,9 +10,9 @@ use Rattle.symbols.specs.Rule.{symbols, number}
 use Rattle.published.specs.Start.{Polynomials, width}
 use Rattle.published.specs.Pairing.{degree}
 use Rattle.workarea.specs.Area.{Starts, cellsOf}
-use Rattle.steplines.proofs.LeadingRows.{rowDegree, row-read, rows-read}
-use Rattle.steplines.proofs.leading.read_degrees.Statement.{statement}
-use Rattle.steplines.proofs.leading.read_degrees.Tie as tie
+use Rattle.stepline.proofs.LeadingRows.{rowDegree, row-read, rows-read}
+use Rattle.stepline.proofs.read_degrees.Statement.{statement}
+use Rattle.stepline.proofs.read_degrees.Tie as tie
 
 abbrev Inv-loop : tie.InvT-loop
 Inv-loop work q degrees₀ r₀ r-end degrees r =

@@ -1,14 +1,14 @@
--- `steplines::leading::put_step_line` meets its contract: what was read of the area are the line's pieces.
+-- `stepline::put_step_line` meets its contract: what was read of the area are the line's pieces.
 -- Assumes nothing.
 use mathlib.Core.Path.{sym}
 use native.Mathlib.Omega.{arith}
 use lib.Seq.{length-take-le}
-use Rattle.steplines.proofs.LeadingRows.{line-is}
-use Rattle.steplines.proofs.Lengths.{length-step}
+use Rattle.stepline.proofs.LeadingRows.{line-is}
+use Rattle.stepline.proofs.Lengths.{length-step}
 use borrow.Author.Needs.{needs}
 use Prim.Native.Nat.{_*_}
-use Rattle.steplines.proofs.leading.put_step_line.Statement.{statement}
-use Rattle.steplines.proofs.leading.put_step_line.Tie as tie
+use Rattle.stepline.proofs.put_step_line.Statement.{statement}
+use Rattle.stepline.proofs.put_step_line.Tie as tie
 
 slice-aggregate-read-degrees : tie.Need-slice-aggregate-read-degrees
 slice-aggregate-read-degrees c = search needs

@@ -12,8 +12,12 @@ ghost use Rattle.published.specs.Start.{Polynomials, startWeight};
 ghost use Rattle.workarea.specs.Area.{Area, Starts, cellsOf};
 ghost use Rattle.lines.specs.Text.{Wrote};
 ghost use Rattle.published.specs.Steps.{State};
-ghost use Rattle.steplines.specs.StepLines.{degrees as StepLines·degrees, voteAt, stepLine, stepSize};
-ghost use Rattle.steplines.specs.Walk.{leader as leaderOf, Shown};
+ghost use Rattle.stepline.specs.StepLine.{stepSize};
+ghost use Rattle.stepline.specs.StepLine.{stepLine};
+ghost use Rattle.stepline.specs.StepLine.{degrees as StepLines·degrees};
+ghost use Rattle.stepline.specs.StepLine.{voteAt};
+ghost use Rattle.stepline.specs.Shown.{Shown};
+ghost use Rattle.stepline.specs.Shown.{leader as leaderOf};
 
 // Which polynomial has its leading term in row r: f_r in an upper row, g_(r-q) in a lower one.
 fn leader(q: usize, r: usize) -> usize

@@ -1,11 +1,11 @@
--- `steplines::leading::leader` meets its contract.
+-- `stepline::leader` meets its contract.
 -- Assumes nothing.
 use mathlib.Core.Path.{sym}
 use native.Mathlib.Omega.{arith}
 use borrow.Author.Needs.{needs}
-use Rattle.steplines.proofs.LeadingRows.{leader-upper, leader-lower}
-use Rattle.steplines.proofs.leading.leader.Statement.{statement}
-use Rattle.steplines.proofs.leading.leader.Tie as tie
+use Rattle.stepline.proofs.LeadingRows.{leader-upper, leader-lower}
+use Rattle.stepline.proofs.leader.Statement.{statement}
+use Rattle.stepline.proofs.leader.Tie as tie
 
 add-result : tie.Need-add-result
 add-result c = search needs

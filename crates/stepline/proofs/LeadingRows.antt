@@ -19,8 +19,10 @@ use Rattle.published.specs.Pairing.{isVoted, degree, degreeOf, degreeF, degreeG
 use Rattle.published.specs.Steps.{State}
 use Rattle.workarea.specs.Area.{cellsOf}
 use Rattle.report.specs.Report.{stepText}
-use Rattle.steplines.specs.StepLines.{voteAt, degrees, stepLine}
-use Rattle.steplines.specs.Walk.{leader}
+use Rattle.stepline.specs.StepLine.{stepLine}
+use Rattle.stepline.specs.StepLine.{degrees}
+use Rattle.stepline.specs.StepLine.{voteAt}
+use Rattle.stepline.specs.Shown.{leader}
 
 -- the degree of the leading polynomial's row r
 unfoldable pub rowDegree : (q : ℕ) → Polynomials (symbols q) q → ℕ → ℕ

@@ -1,0 +1,2 @@
+mod LeadingRows
+pub mod Lengths
