@@ -1,3 +1,2 @@
 mod Searching
-pub mod Written
 pub mod Meaning

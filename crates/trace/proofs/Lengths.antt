@@ -29,7 +29,7 @@ use Rattle.decoder.specs.Decoding.{judgement, decoded}
 use Rattle.voting.specs.Voting.{voted}
 use Rattle.voting.proofs.Votes.{voted-count}
 use Rattle.request.specs.Request.{line, Said, asks, nothing, reading}
-use Rattle.request.proofs.Written.{length-code}
+use Rattle.requesttext.proofs.Written.{length-code}
 use Rattle.report.specs.Report.{refuseLine, acceptLine}
 use Rattle.report.proofs.Lengths.{length-refuse, length-accept}
 use Rattle.stepline.specs.StepLine.{stepSize}

@@ -6,7 +6,7 @@ use decoder::decode_row;
 use refusals::Refusal;
 use report::put_acceptance;
 use report::put_refusal;
-use request::put_code;
+use requesttext::put_code;
 use steplines::put_steps;
 use steps::advance;
 use symbols::MOST_AREA;

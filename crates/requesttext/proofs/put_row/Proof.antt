@@ -1,10 +1,10 @@
--- `request::put_row` meets its contract: the line's three pieces are written one after the other.
+-- `requesttext::put_row` meets its contract: the line's three pieces are written one after the other.
 -- Assumes nothing.
 use native.Mathlib.Omega.{arith}
-use Rattle.request.proofs.Written.{length-row, wrote-row}
+use Rattle.requesttext.proofs.Written.{length-row, wrote-row}
 use borrow.Author.Needs.{needs}
-use Rattle.request.proofs.put_row.Statement.{statement}
-use Rattle.request.proofs.put_row.Tie as tie
+use Rattle.requesttext.proofs.put_row.Statement.{statement}
+use Rattle.requesttext.proofs.put_row.Tie as tie
 
 shared-slice-read-put-number : tie.Need-shared-slice-read-put-number
 shared-slice-read-put-number c = search needs

@@ -1,4 +1,4 @@
--- `request::is_text_of` meets its contract: the two lines fit on the page, and the page's front is compared.
+-- `requesttext::is_text_of` meets its contract: the two lines fit on the page, and the page's front is compared.
 -- Assumes nothing.
 use mathlib.Core.Path.{sym}
 use Prim.Native.Nat.{_+_, _≤_}
@@ -7,11 +7,11 @@ use lib.ListN.{length, take}
 use lib.Seq.{length-take-le}
 use Rattle.lines.proofs.Writing.{wrote-front, wrote-within}
 use Rattle.asking.specs.Request.{line}
-use Rattle.request.proofs.Written.{length-first, length-line, wrote-request}
+use Rattle.requesttext.proofs.Written.{length-first, length-line, wrote-request}
 use Rattle.lists.proofs.Same.{tells-same}
 use borrow.Author.Needs.{needs}
-use Rattle.request.proofs.is_text_of.Statement.{statement}
-use Rattle.request.proofs.is_text_of.Tie as tie
+use Rattle.requesttext.proofs.is_text_of.Statement.{statement}
+use Rattle.requesttext.proofs.is_text_of.Tie as tie
 
 -- the row's line has room on the page after the first line
 row-room : (c : tie.After-page3)

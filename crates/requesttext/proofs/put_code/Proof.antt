@@ -1,10 +1,10 @@
--- `request::put_code` meets its contract: the line's four pieces are written one after the other.
+-- `requesttext::put_code` meets its contract: the line's four pieces are written one after the other.
 -- Assumes nothing.
 use native.Mathlib.Omega.{arith}
 use borrow.Author.Needs.{needs}
-use Rattle.request.proofs.Written.{length-code, wrote-code}
-use Rattle.request.proofs.put_code.Statement.{statement}
-use Rattle.request.proofs.put_code.Tie as tie
+use Rattle.requesttext.proofs.Written.{length-code, wrote-code}
+use Rattle.requesttext.proofs.put_code.Statement.{statement}
+use Rattle.requesttext.proofs.put_code.Tie as tie
 
 put-number-requires : tie.Need-put-number-requires
 put-number-requires c κs = let start = c .before .before in omega (arith, start .pre, length-code (start .args .q) (start .args .u))
