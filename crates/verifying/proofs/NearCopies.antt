@@ -2,9 +2,8 @@
 -- Assumes nothing.
 use mathlib.Core.Path.{_≡_, sym, ap, _∙_}
 use mathlib.Core.Logic.{⊎-elim}
-use mathlib.Core.Bool.{true}
 use mathlib.Core.List.{List}
-use Prim.Native.Nat.{ℕ, zero, suc, _+_, _*_, _/_, _≤_, _<_}
+use Prim.Native.Nat.{ℕ, zero, suc, _+_, _/_, _≤_, _<_}
 use native.Mathlib.Nat.{zero-add}
 use native.Mathlib.Omega.{arith}
 use lib.Dec.{eqb}
@@ -12,11 +11,10 @@ use lib.ListN.{length, getD}
 use borrow.Author.Tests.{eq-eqb}
 use Rattle.refusals.specs.declared.Refusal.{Refusal}
 use Rattle.refusals.specs.Numbers.{firstOf}
-use Rattle.refusals.proofs.Checks.{Passes, refused, passed, decideChecks}
+use Rattle.refusals.proofs.Checks.{refused, passed, decideChecks}
 use Rattle.algebra.specs.Totals.{total}
 use Rattle.algebra.proofs.NumberSums.{total-cong, total-head}
 use Rattle.lists.specs.Tables.{from, tab}
-use Rattle.published.specs.Picture.{areaSize}
 use Rattle.judging.specs.Judging.{countOf}
 use Rattle.layout.specs.Layout.{tapeQ, tapeU, rowCount, blockRow, payloadRow}
 use Rattle.laying.proofs.CodeRow.{message-of}

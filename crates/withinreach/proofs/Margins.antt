@@ -1,12 +1,11 @@
 -- The sum of max(q² - k, 0) over the pairs of the start is ν(s); the least ν(s) over the non-gaps up to u is the distance.
 -- Assumes nothing.
 use mathlib.Core.Path.{_≡_, sym, ap, ap₂, _∙_}
-use mathlib.Core.Bool.{true, cond}
-use Prim.Native.Nat.{ℕ, zero, suc, _+_, _*_, _-_, _/_, _%_, _≤_, _<_}
+use mathlib.Core.Bool.{true}
+use Prim.Native.Nat.{ℕ, suc, _+_, _*_, _-_, _/_, _%_, _≤_, _<_}
 use native.Mathlib.Nat as Nat
 use native.Mathlib.Omega.{arith}
 use native.Mathlib.Decide.{decLe, decLt, ℕ-discrete}
-use borrow.Author.Tests.{le-leb, lt-leb}
 use Rattle.algebra.specs.Weights.{weight, nongap}
 use Rattle.algebra.specs.Totals.{total}
 use Rattle.algebra.proofs.NumberSums.{total-cong, total-split, total-const}

@@ -1,4 +1,4 @@
--- `block::verdict::next_verdict` meets its contract, by the state of the row.
+-- `verdict::next_verdict` meets its contract, by the state of the row.
 -- Assumes nothing.
 use Rattle.verdict.specs.RowByRow.{totalOf}
 use Rattle.verdict.proofs.Verdicts.{settled-stays, next-equal, next-differs, next-unreadable}

@@ -1,4 +1,4 @@
--- `block::verdict::rows_to_read` meets its contract.
+-- `verdict::rows_to_read` meets its contract.
 -- Assumes nothing.
 use mathlib.Core.Path.{_∙_}
 use Rattle.verdict.proofs.Verdicts.{settled-reads-none, copied-reads-all}

@@ -1,4 +1,4 @@
--- `block::verdict::verdict_before` meets its contract: one law for each check.
+-- `verdict::verdict_before` meets its contract: one law for each check.
 -- Assumes nothing.
 use mathlib.Core.Path.{_≡_, sym, _∙_}
 use mathlib.Core.Bool.{true}
