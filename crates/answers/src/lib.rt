@@ -5,35 +5,35 @@
 use refusals::Refusal;
 
 // What encoding answers.
-#[derive(Drop)]
+#[derive(Clone, Copy)]
 pub enum Encoded {
     Done,
     Refused(Refusal),
 }
 
 // What the stop service answers.
-#[derive(Drop)]
+#[derive(Clone, Copy)]
 pub enum Stopped {
     Done,
     Refused(Refusal),
 }
 
 // What decoding answers; an acceptance has the count of places that differ.
-#[derive(Drop)]
+#[derive(Clone, Copy)]
 pub enum Decoded {
     Accepted(usize),
     Refused(Refusal),
 }
 
 // The outcome of one row: its state; and the count, 0 when unreadable.
-#[derive(Drop)]
+#[derive(Clone, Copy)]
 pub struct Record {
     pub state: u8,
     pub count: u8,
 }
 
 // What verifying a block answers.
-#[derive(Drop)]
+#[derive(Clone, Copy)]
 pub enum Verified {
     // every row is in state 0: the sum of the counts
     Copied(usize),
@@ -44,7 +44,7 @@ pub enum Verified {
 }
 
 // What writing a block answers.
-#[derive(Drop)]
+#[derive(Clone, Copy)]
 pub enum Written {
     // the block's length in bytes
     Length(usize),

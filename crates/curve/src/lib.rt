@@ -10,7 +10,7 @@ ghost use Rattle.curve.specs.Answers.{monomial_of, named};
 use refusals::Refusal;
 
 // What a weight belongs to.
-#[derive(Drop)]
+#[derive(Clone, Copy)]
 pub enum Monomial {
     // no monomial has this weight
     Gap,
@@ -19,7 +19,7 @@ pub enum Monomial {
 }
 
 // A code: q and u, how many symbols a row and a message have, and the reach.
-#[derive(Drop)]
+#[derive(Clone, Copy)]
 pub struct Code {
     pub q: usize,
     pub u: usize,
@@ -29,7 +29,7 @@ pub struct Code {
 }
 
 // What q and u name.
-#[derive(Drop)]
+#[derive(Clone, Copy)]
 pub enum Named {
     Code(Code),
     Refused(Refusal),

@@ -39,8 +39,8 @@ pub fn decode_row(
     if code.reach < count {
         return Decoded::Refused(Refusal::BeyondReach);
     }
-    bytes::copy(&votes[..k], message);
-    bytes::copy(&sent[..n], corrected);
+    message[..k].copy_from_slice(&votes[..k]);
+    corrected[..n].copy_from_slice(&sent[..n]);
     Decoded::Accepted(count)
 }
 

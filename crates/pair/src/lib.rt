@@ -2,7 +2,7 @@
 #![tactic(auto)]
 
 // The numbers of pair i: `partner` is i'.
-#[derive(Drop)]
+#[derive(Clone, Copy)]
 pub struct Pair {
     pub partner: usize,
     pub c: i64,

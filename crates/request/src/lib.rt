@@ -10,14 +10,14 @@ ghost use Rattle.asking.specs.Request.{grown as Request·grown};
 use requesttext::is_text_of;
 
 // What a text asks: q, u and how many numbers the row has; or nothing that is taken.
-#[derive(Drop)]
+#[derive(Clone, Copy)]
 pub enum Reading {
     Asks { q: usize, u: usize, count: usize },
     Nothing,
 }
 
 // The number that ends first from a place on, and the place after what ends it.
-#[derive(Drop)]
+#[derive(Clone, Copy)]
 pub enum Found {
     Number { value: usize, next: usize },
     End,

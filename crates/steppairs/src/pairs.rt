@@ -15,7 +15,7 @@ use pair::Pair;
 use symbols::MOST_Q;
 
 // w_i and μ_i.
-#[derive(Drop)]
+#[derive(Clone, Copy)]
 struct NamedSymbol {
     w: u8,
     mu: u8,

@@ -6,7 +6,7 @@ ghost use Rattle.workarea.specs.Area.{Area, Cells, Starts, Narrow};
 ghost use Rattle.steppairs.specs.Reading.{Short, LeadingOf};
 
 // A row's degree and the symbol there; both 0 for a row of zeros.
-#[derive(Drop)]
+#[derive(Clone, Copy)]
 pub struct RowLead {
     pub degree: usize,
     pub coefficient: u8,

@@ -17,21 +17,21 @@ use symbols::MOST_SYMBOLS;
 use workarea::{MINUS, PLUS, Row};
 
 // A part of a polynomial: its q rows from `row` on.
-#[derive(Drop)]
+#[derive(Clone, Copy)]
 pub struct Part {
     pub polynomial: usize,
     pub row: usize,
 }
 
 // The powers of x and y of a monomial.
-#[derive(Drop)]
+#[derive(Clone, Copy)]
 pub struct Powers {
     pub x: usize,
     pub y: usize,
 }
 
 // The row that row j of y^b times a part comes from, and how far it is moved up.
-#[derive(Drop)]
+#[derive(Clone, Copy)]
 struct Source {
     row: usize,
     shift: usize,

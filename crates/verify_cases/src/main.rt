@@ -21,7 +21,7 @@ fn run(name: &[u8], block: &[u8], payload: &[u8], records: &mut [u8], work: &mut
 }
 
 // How many bytes a case lends: of the block, the payload, the records and the work area.
-#[derive(Drop)]
+#[derive(Clone, Copy)]
 struct Lengths(usize, usize, usize, usize);
 
 // The header of one row, and what it takes to verify that row.

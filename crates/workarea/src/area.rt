@@ -15,7 +15,7 @@ pub const PLUS: bool = false;
 pub const MINUS: bool = true;
 
 // A row of the area.
-#[derive(Drop)]
+#[derive(Clone, Copy)]
 pub struct Row {
     pub polynomial: usize,
     pub row: usize,
@@ -54,7 +54,7 @@ pub fn smaller(a: usize, b: usize) -> usize
 }
 
 // The bytes of two rows that take part in a sum or a difference: where they start, and how many there are.
-#[derive(Drop)]
+#[derive(Clone, Copy)]
 struct Run {
     to: usize,
     from: usize,
