@@ -1,0 +1,11 @@
+-- `vectors::zeros_first` meets its contract. The loop's invariant: `zeros` is within the area. Assumes nothing.
+use Prim.Native.Nat.{◌≤◌, ◌-◌}
+use lib.ListN.{length}
+use borrow.Author.Rules.{rules}
+use Rattle.vectors.proofs.zeros_first.Given as goal
+
+abbrev pub invariant-loop-zeros : goal.invariant-loop-zeros
+invariant-loop-zeros l = l.zeros ≤ length l.area
+
+abbrev pub decreases-loop-zeros : goal.decreases-loop-zeros
+decreases-loop-zeros l = length l.area - l.zeros
