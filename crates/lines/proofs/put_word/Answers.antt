@@ -17,5 +17,5 @@ loop-done-preserved c =
     let byte = c.put_byte-next in (
       omega arith,
       wrote-word-more c.args.word.now c.loop-done.done c.requires h c.loop-done.invariant.1 byte.ensures,
-      byte.auto.0 ∙ c.loop-done.invariant.2,
+      byte.auto.buffer ∙ c.loop-done.invariant.2,
     )
