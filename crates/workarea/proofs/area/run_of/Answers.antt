@@ -14,14 +14,14 @@ pub overflow_add-result : goal.overflow_add-result
 overflow_add-result c =
     let at = c.row_place-target.ensures in
     let wide = c.width_of-width.ensures in
-    omega (arith, at, wide, c.if-width-shift.left, row_small _ _ _ c.pre.0 c.pre.1.to-polynomial c.pre.1.to_row)
+    omega (arith, at, wide, c.if-width-shift.false, row_small _ _ _ c.requires.0 c.requires.1.to-polynomial c.requires.1.to_row)
 
 pub returns : goal.returns
 returns c =
     let at = c.row_place-target.ensures in
     let wide = c.width_of-width.ensures in
     let n : Counted (width c.args.q) c.args.shift c.args.height c.smaller-count.result =
-    rw (c.smaller-count.ensures, wide) (count _ _ _ (omega (arith, wide, c.if-width-shift.left))) in
+    rw (c.smaller-count.ensures, wide) (count _ _ _ (omega (arith, wide, c.if-width-shift.false))) in
     record {
       starts = omega (arith, at);
       fits = omega (arith, at, n.within);
