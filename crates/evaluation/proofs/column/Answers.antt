@@ -23,7 +23,7 @@ pub overflow_add-end : goal.overflow_add-end
 overflow_add-end c = omega (arith, known-high _ c.requires.0)
 
 pub slice_bounds-value_in-end : goal.slice_bounds-value_in-end
-slice_bounds-value_in-end c = ?
+slice_bounds-value_in-end c = omega (arith, known-high _ c.requires.0)
 
 pub loop-j-preserved : goal.loop-j-preserved
 loop-j-preserved c =

@@ -28,22 +28,19 @@ pub bounds-ordinates-b : goal.bounds-ordinates-b
 bounds-ordinates-b c = omega (arith, known-high _ c.requires.0)
 
 pub slice_bounds-value_in-end : goal.slice_bounds-value_in-end
-slice_bounds-value_in-end c = simp length-take (omega (arith, known-high _ c.before.before.before.before.before.before.before.before.before.before.requires.0))
+slice_bounds-value_in-end c = simp length-take (omega (arith, known-high _ c.requires.0))
 
 pub overflow_add-row : goal.overflow_add-row
 overflow_add-row c =
-    let start = c.before.before.before.before.before.before.before.before.before.before.before in
-    omega (arith, fibre-within _ start.args.x start.requires.1, count_small _ start.requires.0)
+    omega (arith, fibre-within _ c.args.x c.requires.1, count_small _ c.requires.0)
 
 pub bounds-row-start : goal.bounds-row-start
 bounds-row-start c =
-    let start = c.before.before.before.before.before.before.before.before.before.before.before in
-    omega (arith, fibre-within _ start.args.x start.requires.1)
+    omega (arith, fibre-within _ c.args.x c.requires.1)
 
 pub loop-b-preserved : goal.loop-b-preserved
 loop-b-preserved c =
-    let start = at.before.before.before.before.before.before in
-    let q = start.args.q in
+    let q = c.args.q in
     let b = c.loop-b.b in
     let above = c.ordinates-ordinates.ensures _ c.products_in.ensures in (
       search rules,
@@ -52,9 +49,9 @@ loop-b-preserved c =
           let e = c.products_in-products.ensures ∙ ap (λ l. product_row q (get_or l b 0)) above in
           rw (
             c.loop-b.invariant.2 v held,
-            fibre-value q start.requires.0 c.products_in-products.result c.value_in.result v
-                start.args.values.now start.args.x b
-                start.requires.1 (omega arith) start.requires.2 held e c.value_in.ensures,
+            fibre-value q c.requires.0 c.products_in-products.result c.value_in.result v
+                c.args.values.now c.args.x b
+                c.requires.1 (omega arith) c.requires.2 held e c.value_in.ensures,
           )
-          (put-more start.args.row.now (start.args.x * q) b (fibre_number q v start.args.x)),
+          (put-more c.args.row.now (c.args.x * q) b (fibre_number q v c.args.x)),
     )

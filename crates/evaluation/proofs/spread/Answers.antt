@@ -13,21 +13,21 @@ use Rattle.curve.proofs.MonomialAnswers.{Found, found, missed}
 use Rattle.evaluation.specs.Stages.{IsSpread}
 use Rattle.evaluation.proofs.Spreading.{spread_none, spread-gap, spread-next, powers-fit}
 use Rattle.evaluation.proofs.spread.Goals as goal
-use Rattle.evaluation.proofs.spread.Goals.{After-shared_slice_known-in-Powers-1}
+use Rattle.evaluation.proofs.spread.Goals.{In-Powers}
 
 -- the powers that a turn is told are those of its weight
-here : (c : After-shared_slice_known-in-Powers-1)
-    → Found c.args.q c.loop-s.s c.monomial-1.given.0.0
-    c.monomial-1.given.0.1.0
+here : (c : In-Powers)
+    → Found c.args.q c.loop-s.s c.in-Powers.x
+    c.in-Powers.y
 here c =
     found c.args.q c.loop-s.s _ _ (sym c.monomial_of-monomial.ensures
-    ∙ c.monomial-1.given.1)
+    ∙ c.in-Powers.is)
 
 -- they are within the places
-fits : (c : After-shared_slice_known-in-Powers-1)
-    → c.monomial-1.given.0.1.0 * most_symbols + c.monomial-1.given.0.0 < most_points
+fits : (c : In-Powers)
+    → c.in-Powers.y * most_symbols + c.in-Powers.x < most_points
 fits c =
-    let found = here c.After-shared_slice_known-in-Powers-1 in
+    let found = here c in
     omega (
       arith,
       powers-fit c.args.q c.args.message.now c.loop-s.s c.requires.0 (omega arith)
@@ -43,7 +43,7 @@ overflow_add-s c = omega (arith, count_small _ c.requires.0)
 pub bounds-message-taken : goal.bounds-message-taken
 unfolding nongap
 bounds-message-taken c =
-    let found = here (goal.at.bounds-message-taken c).After-shared_slice_known-in-Powers-1 in
+    let found = here (goal.at.bounds-message-taken c).In-Powers in
     omega (
       arith,
       rank_below c.args.q c.args.u c.loop-s.s (ap not found.nongap)
@@ -53,13 +53,13 @@ bounds-message-taken c =
     )
 
 pub overflow_mul-places : goal.overflow_mul-places
-overflow_mul-places c = omega (arith, fits (goal.at.overflow_mul-places c).After-shared_slice_known-in-Powers-1)
+overflow_mul-places c = omega (arith, fits (goal.at.overflow_mul-places c).In-Powers)
 
 pub overflow_add-places : goal.overflow_add-places
-overflow_add-places c = omega (arith, fits (goal.at.overflow_add-places c).After-shared_slice_known-in-Powers-1)
+overflow_add-places c = omega (arith, fits (goal.at.overflow_add-places c).In-Powers)
 
 pub bounds-places-y : goal.bounds-places-y
-bounds-places-y c = omega (arith, fits (goal.at.bounds-places-y c).After-shared_slice_known-in-Powers-1)
+bounds-places-y c = omega (arith, fits (goal.at.bounds-places-y c).In-Powers)
 
 pub overflow_add-taken : goal.overflow_add-taken
 overflow_add-taken c =
@@ -69,7 +69,7 @@ pub loop-s-preserved-in-Powers : goal.loop-s-preserved-in-Powers
 unfolding nongap
 loop-s-preserved-in-Powers c =
     let q = c.args.q in
-    let found = here (goal.at.loop-s-preserved-in-Powers c).After-shared_slice_known-in-Powers-1 in (
+    let found = here (goal.at.loop-s-preserved-in-Powers c).In-Powers in (
       search rules,
       (rw c.loop-s.invariant.1 (sym (rank-nongap q c.loop-s.s (ap not found.nongap)))),
       simp length-set c.loop-s.invariant.2,
@@ -82,7 +82,7 @@ pub loop-s-preserved : goal.loop-s-preserved
 unfolding nongap
 loop-s-preserved c =
     let q = c.args.q in
-    let none = missed q c.loop-s.s (sym c.monomial_of-monomial.ensures ∙ c.enum_told-1.given.1) in (
+    let none = missed q c.loop-s.s (sym c.monomial_of-monomial.ensures ∙ c.in_default.is) in (
       search rules,
       c.loop-s.invariant.1 ∙ sym (rank-gap q c.loop-s.s (ap not none)),
       c.loop-s.invariant.2,

@@ -11,17 +11,14 @@ use Rattle.rowstate.specs.Outcome.{Reached}
 use Rattle.rowstate.proofs.Records.{outcome-refused, outcome-equal, outcome-other}
 use borrow.Author.Rules.{rules}
 use Rattle.rowstate.proofs.record_of.Goals as goal
-
--- an acceptance's count is within reach
-accepted-small : {answer : Decoded} {count : ℕ} → answer ≡ Accepted count → Reached answer → count ≤ tape_reach
-accepted-small accepted small = subst Reached accepted small
+use Rattle.rowstate.proofs.record_of.Goals.{then-is_original, else-is_original}
 
 pub returns-in_default : goal.returns-in_default
-returns-in_default c = outcome-refused _ _ c.in_default.keys2
+returns-in_default c = outcome-refused _ _ c.in_default.not-Accepted
 
 pub returns : goal.returns
 returns c =
-    ⊎_elim
-    (λ w. rw w.1 (outcome-equal _ _ c.answer-1.given.1 _ (sym c.is_original.ensures ∙ w.0.taken)))
-    (λ w. rw w.1 (outcome-other _ _ c.answer-1.given.1 _ (sym c.is_original.ensures ∙ w.0.left)))
-    c.if-is_original.branch
+    elim c.if-is_original.branch [
+      | then-is_original w ↦ rw w.state-is (outcome-equal _ _ c.in-Accepted.is _ (sym c.is_original.ensures ∙ w.if-is_original.true))
+      | else-is_original w ↦ rw w.state-is (outcome-other _ _ c.in-Accepted.is _ (sym c.is_original.ensures ∙ w.if-is_original.false))
+    ]

@@ -7,19 +7,19 @@ use borrow.Author.Rules.{rules}
 use Rattle.verdict.proofs.next_verdict.Goals as goal
 
 pub returns-in_default : goal.returns-in_default
-returns-in_default c = settled-stays _ _ _ c.in_default.keys2
+returns-in_default c = settled-stays _ _ _ c.in_default.not-Copied
 
 pub overflow_add-result : goal.overflow_add-result
 unfolding total_of
 overflow_add-result c =
-    let known = c.verdict-1.given.1 in
+    let known = c.in-Copied.is in
     omega (arith, rw known at c.requires)
 
 pub returns-in-0 : goal.returns-in-0
-returns-in-0 c = rw c.verdict-1.given.1 (next-equal _ _ _ c.in-0.is)
+returns-in-0 c = rw c.in-Copied.is (next-equal _ _ _ c.in-0.is)
 
 pub returns-in-1 : goal.returns-in-1
-returns-in-1 c = rw c.verdict-1.given.1 (next-differs _ _ _ c.in-1.is)
+returns-in-1 c = rw c.in-Copied.is (next-differs _ _ _ c.in-1.is)
 
 pub returns-in_default-state : goal.returns-in_default-state
-returns-in_default-state c = rw c.verdict-1.given.1 (next-unreadable _ _ _ c.in_default-state.rest.0.1 c.in_default-state.rest.1)
+returns-in_default-state c = rw c.in-Copied.is (next-unreadable _ _ _ (omega arith) (omega arith))
