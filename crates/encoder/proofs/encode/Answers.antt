@@ -1,0 +1,33 @@
+-- `encoder::encode` meets its contract: what q and u name decides. Assumes nothing.
+use mathlib.Core.Path.{sym, ap, ◌∙◌}
+use borrow.Author.Rules.{rules}
+use Rattle.curve.specs.declared.Code.{Code}
+use Rattle.curve.proofs.Naming.{named-refused, named-code, IsNamed, named-valid}
+use Rattle.encoder.specs.Encoding.{encode_answer, encode_output}
+use Rattle.encoder.proofs.EncodeChecks.{refused-by-code}
+use Rattle.encoder.proofs.encode.Goals as goal
+use Rattle.encoder.proofs.encode.Goals.{In-Code-2}
+
+-- the code that was named
+found : (c : In-Code-2) → IsNamed c.args.q c.args.u c.code-1.given.0.0
+found c = named-code _ _ (sym c.code_of.ensures ∙ c.code-1.given.1)
+
+pub encode_under-requires : goal.encode_under-requires
+encode_under-requires c = named-valid _ _ (found (goal.at.encode_under-requires c).In-Code-2)
+
+pub returns-in-Code-clause-value : goal.returns-in-Code-clause-value
+returns-in-Code-clause-value c = let message = c.args.message.now in
+    let output = c.args.output.now in
+    let named = found (goal.at.returns-in-Code-clause-value c).In-Code-2 in
+    let done = c.encode_under.ensures in
+    done.0 ∙ ap (λ (code : Code). encode_answer code.q code.u message output) named.is
+
+pub returns-in-Code-clause-output_left : goal.returns-in-Code-clause-output_left
+returns-in-Code-clause-output_left c = let message = c.args.message.now in
+    let output = c.args.output.now in
+    let named = found (goal.at.returns-in-Code-clause-output_left c).In-Code-2 in
+    let done = c.encode_under.ensures in
+    done.1 ∙ ap (λ (code : Code). encode_output code.q code.u message output) named.is
+
+pub returns-in-Refused : goal.returns-in-Refused
+returns-in-Refused c = refused-by-code _ _ _ _ (named-refused _ _ (sym c.code_of.ensures ∙ c.why-1.given.1)) -- ?? clause
