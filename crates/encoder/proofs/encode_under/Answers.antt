@@ -20,19 +20,19 @@ message c =
     record {
       known = c.requires.known;
       code = c.requires.accepted;
-      whole = long c.Else-message-code;
+      whole = (let it : length c.args.message.now ≡ dimension c.args.code.q c.args.code.u = c.if-message-code.false ∙ c.requires.k-is in it);
       all-symbols = not-true _ (sym c.all_symbols.ensures ∙ not-false _ (ap not c.if-not-all_symbols.false));
     }
 
 pub returns-then-message-code : goal.returns-then-message-code
-returns-then-message-code c = refused-by-message _ _ _ _ (valid-passes c.requires) (wrong-length _ _ _ (rw c.requires.k-is at c.if-message-code.true)) -- ?? clause
+returns-then-message-code c = let all = refused-by-message _ _ _ _ (valid-passes c.requires) (wrong-length _ _ _ (rw c.requires.k-is at c.if-message-code.true)) in record { value = all.0; output_left = all.1 }
 
 pub returns-then-not-all_symbols : goal.returns-then-not-all_symbols
-returns-then-not-all_symbols c = refused-by-message _ _ _ _ (valid-passes c.requires)
-    (no_symbol _ _ _ (long (goal.at.returns-then-not-all_symbols c).Else-message-code) (not-false _ (sym c.all_symbols.ensures ∙ not-true _ (ap not c.if-not-all_symbols.true)))) -- ?? clause
+returns-then-not-all_symbols c = let all = refused-by-message _ _ _ _ (valid-passes c.requires)
+    (no_symbol _ _ _ (long (goal.at.returns-then-not-all_symbols c).Else-message-code) (not-false _ (sym c.all_symbols.ensures ∙ not-true _ (ap not c.if-not-all_symbols.true)))) in record { value = all.0; output_left = all.1 }
 
 pub returns-then-output-code : goal.returns-then-output-code
-returns-then-output-code c = refused-by-output _ _ _ _ (valid-passes c.requires) (given-passes (message (goal.at.returns-then-output-code c).Else-not-all_symbols)) (rw c.requires.n-is at c.if-output-code.true) -- ?? clause
+returns-then-output-code c = let all = refused-by-output _ _ _ _ (valid-passes c.requires) (given-passes (message (goal.at.returns-then-output-code c).Else-not-all_symbols)) (rw c.requires.n-is at c.if-output-code.true) in record { value = all.0; output_left = all.1 }
 
 pub returns-clause-value : goal.returns-clause-value
 returns-clause-value c = let answer = not-refused _ _ _ _ (valid-passes c.requires) (given-passes (message (goal.at.returns-clause-value c).Else-not-all_symbols)) (rw c.requires.n-is (goal.at.returns-clause-value c).Else-output-code c.if-output-code.false) in

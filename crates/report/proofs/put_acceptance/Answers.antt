@@ -11,49 +11,43 @@ use Rattle.report.specs.Report.{accept_line}
 use Rattle.report.proofs.put_acceptance.Goals as goal
 use Rattle.report.proofs.put_acceptance.Goals.{After-out-2-1, After-put_number-number, After-put_spaced-symbols, After-put_word-colon, After-shared_slice_known-1, After-slice_known-1, Start}
 
--- the line's first two pieces, its first three and its first four
-abbrev two : Start → List ℕ
-two c = ascii "accept " ++ digits c.args.count
-
-abbrev three : Start → List ℕ
-three c = two c.Start ++ ascii " :"
-
-abbrev four : Start → List ℕ
-four c = three c.Start ++ spaced c.args.message.now
-
 -- there is room for them
-room-four : (c : Start) → c.args.at + length (four c.Start) ≤ length c.args.out.now
+room-four : (c : Start) → c.args.at + length ((((ascii "accept " ++ digits c.args.count) ++ ascii " :") ++ spaced c.args.message.now)) ≤ length c.args.out.now
 unfolding accept_line
-room-four c = room-first c.args.at (four c.Start) (10 ∷ []) c.requires
+room-four c = room-first c.args.at ((((ascii "accept " ++ digits c.args.count) ++ ascii " :") ++ spaced c.args.message.now)) (10 ∷ []) c.requires
 
-room-three : (c : Start) → c.args.at + length (three c.Start) ≤ length c.args.out.now
-room-three c = room-first c.args.at (three c.Start) (spaced c.args.message.now) (room-four c.Start)
+room-three : (c : Start) → c.args.at + length (((ascii "accept " ++ digits c.args.count) ++ ascii " :")) ≤ length c.args.out.now
+unfolding accept_line
+room-three c = room-first c.args.at (((ascii "accept " ++ digits c.args.count) ++ ascii " :")) (spaced c.args.message.now) ((let it : c.args.at + length ((((ascii "accept " ++ digits c.args.count) ++ ascii " :") ++ spaced c.args.message.now)) ≤ length c.args.out.now = room-first c.args.at ((((ascii "accept " ++ digits c.args.count) ++ ascii " :") ++ spaced c.args.message.now)) (10 ∷ []) c.requires in it))
 
-room-two : (c : Start) → c.args.at + length (two c.Start) ≤ length c.args.out.now
-room-two c = room-first c.args.at (two c.Start) (ascii " :") (room-three c.Start)
+room-two : (c : Start) → c.args.at + length ((ascii "accept " ++ digits c.args.count)) ≤ length c.args.out.now
+unfolding accept_line
+room-two c = room-first c.args.at ((ascii "accept " ++ digits c.args.count)) (ascii " :") ((let it : c.args.at + length (((ascii "accept " ++ digits c.args.count) ++ ascii " :")) ≤ length c.args.out.now = room-first c.args.at (((ascii "accept " ++ digits c.args.count) ++ ascii " :")) (spaced c.args.message.now) ((let it : c.args.at + length ((((ascii "accept " ++ digits c.args.count) ++ ascii " :") ++ spaced c.args.message.now)) ≤ length c.args.out.now = room-first c.args.at ((((ascii "accept " ++ digits c.args.count) ++ ascii " :") ++ spaced c.args.message.now)) (10 ∷ []) c.requires in it)) in it))
 
 room-one : (c : Start) → c.args.at + length (ascii "accept ") ≤ length c.args.out.now
-room-one c = room-first c.args.at (ascii "accept ") (digits c.args.count) (room-two c.Start)
+unfolding accept_line
+room-one c = room-first c.args.at (ascii "accept ") (digits c.args.count) ((let it : c.args.at + length ((ascii "accept " ++ digits c.args.count)) ≤ length c.args.out.now = room-first c.args.at ((ascii "accept " ++ digits c.args.count)) (ascii " :") ((let it : c.args.at + length (((ascii "accept " ++ digits c.args.count) ++ ascii " :")) ≤ length c.args.out.now = room-first c.args.at (((ascii "accept " ++ digits c.args.count) ++ ascii " :")) (spaced c.args.message.now) ((let it : c.args.at + length ((((ascii "accept " ++ digits c.args.count) ++ ascii " :") ++ spaced c.args.message.now)) ≤ length c.args.out.now = room-first c.args.at ((((ascii "accept " ++ digits c.args.count) ++ ascii " :") ++ spaced c.args.message.now)) (10 ∷ []) c.requires in it)) in it)) in it))
 
 -- the first word and the count are written
 wrote-two : (c : After-put_number-number)
-    → Wrote c.args.out.now c.args.at (two c.After-slice_known-1) c.put_number-number.new.buffer c.put_number-number.result
-unfolding ascii
+    → Wrote c.args.out.now c.args.at ((ascii "accept " ++ digits c.args.count)) c.put_number-number.new.buffer c.put_number-number.result
+unfolding accept_line ascii
 wrote-two c =
-    wrote-more (room-one c.After-slice_known-1) c.put_word-word.ensures c.put_number-number.ensures
+    wrote-more ((let it : c.args.at + length (ascii "accept ") ≤ length c.args.out.now = room-first c.args.at (ascii "accept ") (digits c.args.count) ((let it : c.args.at + length ((ascii "accept " ++ digits c.args.count)) ≤ length c.args.out.now = room-first c.args.at ((ascii "accept " ++ digits c.args.count)) (ascii " :") ((let it : c.args.at + length (((ascii "accept " ++ digits c.args.count) ++ ascii " :")) ≤ length c.args.out.now = room-first c.args.at (((ascii "accept " ++ digits c.args.count) ++ ascii " :")) (spaced c.args.message.now) ((let it : c.args.at + length ((((ascii "accept " ++ digits c.args.count) ++ ascii " :") ++ spaced c.args.message.now)) ≤ length c.args.out.now = room-first c.args.at ((((ascii "accept " ++ digits c.args.count) ++ ascii " :") ++ spaced c.args.message.now)) (10 ∷ []) c.requires in it)) in it)) in it)) in it)) c.put_word-word.ensures c.put_number-number.ensures
 
 -- and the second word
 wrote-three : (c : After-put_word-colon)
-    → Wrote c.args.out.now c.args.at (three c.After-shared_slice_known-1) c.put_word-colon.new.buffer c.put_word-colon.result
-unfolding ascii
+    → Wrote c.args.out.now c.args.at (((ascii "accept " ++ digits c.args.count) ++ ascii " :")) c.put_word-colon.new.buffer c.put_word-colon.result
+unfolding accept_line ascii
 wrote-three c =
-    wrote-more (room-two c.After-shared_slice_known-1) (wrote-two c.After-out-2-1) c.put_word-colon.ensures
+    wrote-more ((let it : c.args.at + length ((ascii "accept " ++ digits c.args.count)) ≤ length c.args.out.now = room-first c.args.at ((ascii "accept " ++ digits c.args.count)) (ascii " :") ((let it : c.args.at + length (((ascii "accept " ++ digits c.args.count) ++ ascii " :")) ≤ length c.args.out.now = room-first c.args.at (((ascii "accept " ++ digits c.args.count) ++ ascii " :")) (spaced c.args.message.now) ((let it : c.args.at + length ((((ascii "accept " ++ digits c.args.count) ++ ascii " :") ++ spaced c.args.message.now)) ≤ length c.args.out.now = room-first c.args.at ((((ascii "accept " ++ digits c.args.count) ++ ascii " :") ++ spaced c.args.message.now)) (10 ∷ []) c.requires in it)) in it)) in it)) ((let it : Wrote c.args.out.now c.args.at ((ascii "accept " ++ digits c.args.count)) c.put_number-number.new.buffer c.put_number-number.result = wrote-more ((let it : c.args.at + length (ascii "accept ") ≤ length c.args.out.now = room-first c.args.at (ascii "accept ") (digits c.args.count) ((let it : c.args.at + length ((ascii "accept " ++ digits c.args.count)) ≤ length c.args.out.now = room-first c.args.at ((ascii "accept " ++ digits c.args.count)) (ascii " :") ((let it : c.args.at + length (((ascii "accept " ++ digits c.args.count) ++ ascii " :")) ≤ length c.args.out.now = room-first c.args.at (((ascii "accept " ++ digits c.args.count) ++ ascii " :")) (spaced c.args.message.now) ((let it : c.args.at + length ((((ascii "accept " ++ digits c.args.count) ++ ascii " :") ++ spaced c.args.message.now)) ≤ length c.args.out.now = room-first c.args.at ((((ascii "accept " ++ digits c.args.count) ++ ascii " :") ++ spaced c.args.message.now)) (10 ∷ []) c.requires in it)) in it)) in it)) in it)) c.put_word-word.ensures c.put_number-number.ensures in it)) c.put_word-colon.ensures
 
 -- and the message
 wrote-four : (c : After-put_spaced-symbols)
-    → Wrote c.args.out.now c.args.at (four c.After-shared_slice_known-1) c.put_spaced-symbols.new.buffer c.put_spaced-symbols.result
+    → Wrote c.args.out.now c.args.at ((((ascii "accept " ++ digits c.args.count) ++ ascii " :") ++ spaced c.args.message.now)) c.put_spaced-symbols.new.buffer c.put_spaced-symbols.result
+unfolding accept_line ascii
 wrote-four c =
-    wrote-more (room-three c.After-shared_slice_known-1) (wrote-three c.After-put_word-colon) c.put_spaced-symbols.ensures
+    wrote-more ((let it : c.args.at + length (((ascii "accept " ++ digits c.args.count) ++ ascii " :")) ≤ length c.args.out.now = room-first c.args.at (((ascii "accept " ++ digits c.args.count) ++ ascii " :")) (spaced c.args.message.now) ((let it : c.args.at + length ((((ascii "accept " ++ digits c.args.count) ++ ascii " :") ++ spaced c.args.message.now)) ≤ length c.args.out.now = room-first c.args.at ((((ascii "accept " ++ digits c.args.count) ++ ascii " :") ++ spaced c.args.message.now)) (10 ∷ []) c.requires in it)) in it)) ((let it : Wrote c.args.out.now c.args.at (((ascii "accept " ++ digits c.args.count) ++ ascii " :")) c.put_word-colon.new.buffer c.put_word-colon.result = wrote-more ((let it : c.args.at + length ((ascii "accept " ++ digits c.args.count)) ≤ length c.args.out.now = room-first c.args.at ((ascii "accept " ++ digits c.args.count)) (ascii " :") ((let it : c.args.at + length (((ascii "accept " ++ digits c.args.count) ++ ascii " :")) ≤ length c.args.out.now = room-first c.args.at (((ascii "accept " ++ digits c.args.count) ++ ascii " :")) (spaced c.args.message.now) ((let it : c.args.at + length ((((ascii "accept " ++ digits c.args.count) ++ ascii " :") ++ spaced c.args.message.now)) ≤ length c.args.out.now = room-first c.args.at ((((ascii "accept " ++ digits c.args.count) ++ ascii " :") ++ spaced c.args.message.now)) (10 ∷ []) c.requires in it)) in it)) in it)) ((let it : Wrote c.args.out.now c.args.at ((ascii "accept " ++ digits c.args.count)) c.put_number-number.new.buffer c.put_number-number.result = wrote-more ((let it : c.args.at + length (ascii "accept ") ≤ length c.args.out.now = room-first c.args.at (ascii "accept ") (digits c.args.count) ((let it : c.args.at + length ((ascii "accept " ++ digits c.args.count)) ≤ length c.args.out.now = room-first c.args.at ((ascii "accept " ++ digits c.args.count)) (ascii " :") ((let it : c.args.at + length (((ascii "accept " ++ digits c.args.count) ++ ascii " :")) ≤ length c.args.out.now = room-first c.args.at (((ascii "accept " ++ digits c.args.count) ++ ascii " :")) (spaced c.args.message.now) ((let it : c.args.at + length ((((ascii "accept " ++ digits c.args.count) ++ ascii " :") ++ spaced c.args.message.now)) ≤ length c.args.out.now = room-first c.args.at ((((ascii "accept " ++ digits c.args.count) ++ ascii " :") ++ spaced c.args.message.now)) (10 ∷ []) c.requires in it)) in it)) in it)) in it)) c.put_word-word.ensures c.put_number-number.ensures in it)) c.put_word-colon.ensures in it)) c.put_spaced-symbols.ensures
 
 pub put_word-word-requires : goal.put_word-word-requires
 unfolding ascii

@@ -11,33 +11,30 @@ use Rattle.report.specs.Report.{vote_text, step_text}
 use Rattle.report.proofs.put_step.Goals as goal
 use Rattle.report.proofs.put_step.Goals.{After-put_spaced-last, After-put_vote-votes, Start}
 
--- the line's first two pieces, and its first three
-abbrev two : Start → List ℕ
-two c = digits c.args.s ++ vote_text c.args.voted c.args.vote
-
-abbrev three : Start → List ℕ
-three c = two c.Start ++ spaced c.args.degrees.now
-
 -- there is room for them
-room-three : (c : Start) → c.args.at + length (three c.Start) ≤ length c.args.out.now
+room-three : (c : Start) → c.args.at + length (((digits c.args.s ++ vote_text c.args.voted c.args.vote) ++ spaced c.args.degrees.now)) ≤ length c.args.out.now
 unfolding step_text
-room-three c = room-first c.args.at (three c.Start) (10 ∷ []) c.requires
+room-three c = room-first c.args.at (((digits c.args.s ++ vote_text c.args.voted c.args.vote) ++ spaced c.args.degrees.now)) (10 ∷ []) c.requires
 
-room-two : (c : Start) → c.args.at + length (two c.Start) ≤ length c.args.out.now
-room-two c = room-first c.args.at (two c.Start) (spaced c.args.degrees.now) (room-three c.Start)
+room-two : (c : Start) → c.args.at + length ((digits c.args.s ++ vote_text c.args.voted c.args.vote)) ≤ length c.args.out.now
+unfolding step_text
+room-two c = room-first c.args.at ((digits c.args.s ++ vote_text c.args.voted c.args.vote)) (spaced c.args.degrees.now) ((let it : c.args.at + length (((digits c.args.s ++ vote_text c.args.voted c.args.vote) ++ spaced c.args.degrees.now)) ≤ length c.args.out.now = room-first c.args.at (((digits c.args.s ++ vote_text c.args.voted c.args.vote) ++ spaced c.args.degrees.now)) (10 ∷ []) c.requires in it))
 
 -- the weight and the vote are written
 wrote-two : (c : After-put_vote-votes)
-    → Wrote c.args.out.now c.args.at (two c.Start) c.put_vote-votes.new.out c.put_vote-votes.result
+    → Wrote c.args.out.now c.args.at ((digits c.args.s ++ vote_text c.args.voted c.args.vote)) c.put_vote-votes.new.out c.put_vote-votes.result
+unfolding step_text
 wrote-two c =
-    wrote-more (room-first c.args.at (digits c.args.s) (vote_text c.args.voted c.args.vote) (room-two c.Start))
+    wrote-more (room-first c.args.at (digits c.args.s) (vote_text c.args.voted c.args.vote) ((let it : c.args.at + length ((digits c.args.s ++ vote_text c.args.voted c.args.vote)) ≤ length c.args.out.now = room-first c.args.at ((digits c.args.s ++ vote_text c.args.voted c.args.vote)) (spaced c.args.degrees.now) ((let it : c.args.at + length (((digits c.args.s ++ vote_text c.args.voted c.args.vote) ++ spaced c.args.degrees.now)) ≤ length c.args.out.now = room-first c.args.at (((digits c.args.s ++ vote_text c.args.voted c.args.vote) ++ spaced c.args.degrees.now)) (10 ∷ []) c.requires in it)) in it)))
     c.put_number-weight.ensures c.put_vote-votes.ensures
 
 -- and the degrees
 wrote-three : (c : After-put_spaced-last)
-    → Wrote c.args.out.now c.args.at (three c.Start) c.put_spaced-last.new.buffer c.put_spaced-last.result
+    → Wrote c.args.out.now c.args.at (((digits c.args.s ++ vote_text c.args.voted c.args.vote) ++ spaced c.args.degrees.now)) c.put_spaced-last.new.buffer c.put_spaced-last.result
+unfolding step_text
 wrote-three c =
-    wrote-more (room-two c.Start) (wrote-two c.After-put_vote-votes) c.put_spaced-last.ensures
+    wrote-more ((let it : c.args.at + length ((digits c.args.s ++ vote_text c.args.voted c.args.vote)) ≤ length c.args.out.now = room-first c.args.at ((digits c.args.s ++ vote_text c.args.voted c.args.vote)) (spaced c.args.degrees.now) ((let it : c.args.at + length (((digits c.args.s ++ vote_text c.args.voted c.args.vote) ++ spaced c.args.degrees.now)) ≤ length c.args.out.now = room-first c.args.at (((digits c.args.s ++ vote_text c.args.voted c.args.vote) ++ spaced c.args.degrees.now)) (10 ∷ []) c.requires in it)) in it)) ((let it : Wrote c.args.out.now c.args.at ((digits c.args.s ++ vote_text c.args.voted c.args.vote)) c.put_vote-votes.new.out c.put_vote-votes.result = wrote-more (room-first c.args.at (digits c.args.s) (vote_text c.args.voted c.args.vote) ((let it : c.args.at + length ((digits c.args.s ++ vote_text c.args.voted c.args.vote)) ≤ length c.args.out.now = room-first c.args.at ((digits c.args.s ++ vote_text c.args.voted c.args.vote)) (spaced c.args.degrees.now) ((let it : c.args.at + length (((digits c.args.s ++ vote_text c.args.voted c.args.vote) ++ spaced c.args.degrees.now)) ≤ length c.args.out.now = room-first c.args.at (((digits c.args.s ++ vote_text c.args.voted c.args.vote) ++ spaced c.args.degrees.now)) (10 ∷ []) c.requires in it)) in it)))
+    c.put_number-weight.ensures c.put_vote-votes.ensures in it)) c.put_spaced-last.ensures
 
 pub put_number-weight-requires : goal.put_number-weight-requires
 put_number-weight-requires c =
