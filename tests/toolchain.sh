@@ -52,16 +52,17 @@ note_proved() {
     rm -f "$proved"
     [[ $(texts_sum) == "$texts_before" ]] || return 0
     mkdir -p "${proved%/*}"
-    {
-        echo "$texts_before"
+    (
+        set -e
         cd "$root"
+        echo "$texts_before"
         for file in crates/*/src/main.rt; do
             file=${file%/src/main.rt}
             sha256sum "$file/out/${file##*/}"
         done
         # shellcheck disable=SC2046
         [[ -n $libraries_before ]] || sha256sum $(libraries)
-    } >"$proved.new"
+    ) >"$proved.new"
     mv "$proved.new" "$proved"
 }
 
