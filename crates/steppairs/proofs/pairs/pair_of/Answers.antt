@@ -22,10 +22,6 @@ use borrow.Author.Rules.{rules}
 use Rattle.steppairs.proofs.pairs.pair_of.Goals as goal
 use Rattle.steppairs.proofs.pairs.pair_of.Goals.{After-leading_below-f, After-leading_of-g}
 
--- the sum that is divided
-abbrev total : After-leading_below-f → ℕ
-total c = c.args.q * c.leading_below-f.result.degree + (c.args.q + 1) * c.args.i + c.args.s
-
 -- how large its parts are
 record Small (q a i s : ℕ) : Type 0 where
   first : q * a ≤ most_q * most_width
@@ -38,8 +34,10 @@ small c =
     let second = mul-le-mul {n₁ = c.args.q + 1} {m₁ = c.args.i} {n₂ = most_q + 1} {m₂ = most_q} (omega (arith, c.requires.area.few)) (omega (arith, c.requires.area.few)) in
     record { first = first; second = second; all = omega arith }
 
-parts : (c : After-leading_below-f) → Divided c.args.q (total c.After-leading_below-f)
-parts c = divided _ _ c.requires.area.known (small c.After-leading_below-f).all
+parts : (c : After-leading_below-f) → Divided c.args.q ((c.args.q * c.leading_below-f.result.degree + (c.args.q + 1) * c.args.i + c.args.s))
+parts c = divided _ _ c.requires.area.known ((let it : Small c.args.q c.leading_below-f.result.degree c.args.i c.args.s = let first = mul-le-mul {n₁ = c.args.q} {m₁ = c.leading_below-f.result.degree} {n₂ = most_q} {m₂ = most_width} (omega (arith, c.requires.area.few)) (omega (arith, c.requires.area.narrow, c.leading_below-f.ensures.degree_bound)) in
+    let second = mul-le-mul {n₁ = c.args.q + 1} {m₁ = c.args.i} {n₂ = most_q + 1} {m₂ = most_q} (omega (arith, c.requires.area.few)) (omega (arith, c.requires.area.few)) in
+    record { first = first; second = second; all = omega arith } in it)).all
 
 -- the leading symbol of f_i: the height is that of the upper row that is read
 leads : (c : After-leading_below-f) → (S : Polynomials (symbols c.args.q) c.args.q) → WithinHeights c.args.q c.args.heights.now (cells_of c.args.q S)
@@ -50,42 +48,50 @@ leads c S below z =
     record { zeros = λ n h l. below.above _ _ n (omega (arith, c.requires.i_lt_q.0)) c.requires.i_lt_q.0 l h } in
     c.leading_below-f.ensures.leading_of (cells_of _ S) z short
 
--- k is the definition's, and small
-module _ (c.After-leading_of-g : After-leading_of-g) where
-  abbrev k : ℤ
-  k = c.quotient_of-k.result
+low : (c : After-leading_of-g) → nat_abs ((c.quotient_of-k.result)) ≤ most_degree
+low c = rw c.quotient_of-k.ensures (k-small _ _ ((let it : Divided c.args.q ((c.args.q * c.leading_below-f.result.degree + (c.args.q + 1) * c.args.i + c.args.s)) = divided _ _ c.requires.area.known ((let it : Small c.args.q c.leading_below-f.result.degree c.args.i c.args.s = let first = mul-le-mul {n₁ = c.args.q} {m₁ = c.leading_below-f.result.degree} {n₂ = most_q} {m₂ = most_width} (omega (arith, c.requires.area.few)) (omega (arith, c.requires.area.narrow, c.leading_below-f.ensures.degree_bound)) in
+    let second = mul-le-mul {n₁ = c.args.q + 1} {m₁ = c.args.i} {n₂ = most_q + 1} {m₂ = most_q} (omega (arith, c.requires.area.few)) (omega (arith, c.requires.area.few)) in
+    record { first = first; second = second; all = omega arith } in it)).all in it)))
 
-  abbrev k_is : ℤ
-  k_is = k_of c.before.before.before.before.before.before.before.before.before.args.q (total c.before.before.before.before)
+degree : (c : After-leading_of-g) → c.leading_of-g.result.degree ≤ most_degree
+degree c = omega (arith, c.requires.area.narrow, c.leading_of-g.ensures.degree_bound)
 
-  low : nat_abs k ≤ most_degree
-  low = rw c.before.quotient-of.ensures (k-small _ _ (parts c.before.before.before.before))
+c-is : (c : After-leading_of-g) → to_z w64 (of_z w64 (to_z w64 c.leading_of-g.result.degree -ℤ to_z w64 (of_z w64 ((c.quotient_of-k.result))))) ≡ pos c.leading_of-g.result.degree -ℤ (k_of c.args.q ((c.args.q * c.leading_below-f.result.degree + (c.args.q + 1) * c.args.i + c.args.s)))
+c-is c = less-value _ ((c.quotient_of-k.result)) ((let it : c.leading_of-g.result.degree ≤ most_degree = omega (arith, c.requires.area.narrow, c.leading_of-g.ensures.degree_bound) in it)) ((let it : nat_abs ((c.quotient_of-k.result)) ≤ most_degree = rw c.quotient_of-k.ensures (k-small _ _ ((let it : Divided c.args.q ((c.args.q * c.leading_below-f.result.degree + (c.args.q + 1) * c.args.i + c.args.s)) = divided _ _ c.requires.area.known ((let it : Small c.args.q c.leading_below-f.result.degree c.args.i c.args.s = let first = mul-le-mul {n₁ = c.args.q} {m₁ = c.leading_below-f.result.degree} {n₂ = most_q} {m₂ = most_width} (omega (arith, c.requires.area.few)) (omega (arith, c.requires.area.narrow, c.leading_below-f.ensures.degree_bound)) in
+    let second = mul-le-mul {n₁ = c.args.q + 1} {m₁ = c.args.i} {n₂ = most_q + 1} {m₂ = most_q} (omega (arith, c.requires.area.few)) (omega (arith, c.requires.area.few)) in
+    record { first = first; second = second; all = omega arith } in it)).all in it))) in it)) ∙ ap (λ (z : ℤ). pos c.leading_of-g.result.degree -ℤ z) c.quotient_of-k.ensures
 
-  degree : c.leading-of.result.degree ≤ most_degree
-  degree = omega (arith, c.before.before.before.before.before.before.before.before.before.requires.0.narrow, c.leading-of.ensures.0)
+c-small : (c : After-leading_of-g) → nat_abs (to_z w64 (of_z w64 (to_z w64 c.leading_of-g.result.degree -ℤ to_z w64 (of_z w64 ((c.quotient_of-k.result)))))) ≤ most_shift
+c-small c = rw (less-value _ ((c.quotient_of-k.result)) ((let it : c.leading_of-g.result.degree ≤ most_degree = omega (arith, c.requires.area.narrow, c.leading_of-g.ensures.degree_bound) in it)) ((let it : nat_abs ((c.quotient_of-k.result)) ≤ most_degree = rw c.quotient_of-k.ensures (k-small _ _ ((let it : Divided c.args.q ((c.args.q * c.leading_below-f.result.degree + (c.args.q + 1) * c.args.i + c.args.s)) = divided _ _ c.requires.area.known ((let it : Small c.args.q c.leading_below-f.result.degree c.args.i c.args.s = let first = mul-le-mul {n₁ = c.args.q} {m₁ = c.leading_below-f.result.degree} {n₂ = most_q} {m₂ = most_width} (omega (arith, c.requires.area.few)) (omega (arith, c.requires.area.narrow, c.leading_below-f.ensures.degree_bound)) in
+    let second = mul-le-mul {n₁ = c.args.q + 1} {m₁ = c.args.i} {n₂ = most_q + 1} {m₂ = most_q} (omega (arith, c.requires.area.few)) (omega (arith, c.requires.area.few)) in
+    record { first = first; second = second; all = omega arith } in it)).all in it))) in it))) (less-small _ ((c.quotient_of-k.result)) ((let it : c.leading_of-g.result.degree ≤ most_degree = omega (arith, c.requires.area.narrow, c.leading_of-g.ensures.degree_bound) in it)) ((let it : nat_abs ((c.quotient_of-k.result)) ≤ most_degree = rw c.quotient_of-k.ensures (k-small _ _ ((let it : Divided c.args.q ((c.args.q * c.leading_below-f.result.degree + (c.args.q + 1) * c.args.i + c.args.s)) = divided _ _ c.requires.area.known ((let it : Small c.args.q c.leading_below-f.result.degree c.args.i c.args.s = let first = mul-le-mul {n₁ = c.args.q} {m₁ = c.leading_below-f.result.degree} {n₂ = most_q} {m₂ = most_width} (omega (arith, c.requires.area.few)) (omega (arith, c.requires.area.narrow, c.leading_below-f.ensures.degree_bound)) in
+    let second = mul-le-mul {n₁ = c.args.q + 1} {m₁ = c.args.i} {n₂ = most_q + 1} {m₂ = most_q} (omega (arith, c.requires.area.few)) (omega (arith, c.requires.area.few)) in
+    record { first = first; second = second; all = omega arith } in it)).all in it))) in it)))
 
-  c-is : to_z w64 (of_z w64 (to_z w64 c.leading-of.result.degree -ℤ to_z w64 (of_z w64 k))) ≡ pos c.leading-of.result.degree -ℤ k_is
-  c-is = less-value _ k degree low ∙ ap (λ (z : ℤ). pos c.leading-of.result.degree -ℤ z) c.before.quotient-of.ensures
-
-  c-small : nat_abs (to_z w64 (of_z w64 (to_z w64 c.leading-of.result.degree -ℤ to_z w64 (of_z w64 k)))) ≤ most_shift
-  c-small = rw (less-value _ k degree low) (less-small _ k degree low)
-
-  k-is : to_z w64 (of_z w64 k) ≡ k_is
-  k-is = back k (omega (arith, low)) ∙ c.before.quotient-of.ensures
+k-is : (c : After-leading_of-g) → to_z w64 (of_z w64 ((c.quotient_of-k.result))) ≡ (k_of c.args.q ((c.args.q * c.leading_below-f.result.degree + (c.args.q + 1) * c.args.i + c.args.s)))
+k-is c = back ((c.quotient_of-k.result)) (omega (arith, (let it : nat_abs ((c.quotient_of-k.result)) ≤ most_degree = rw c.quotient_of-k.ensures (k-small _ _ ((let it : Divided c.args.q ((c.args.q * c.leading_below-f.result.degree + (c.args.q + 1) * c.args.i + c.args.s)) = divided _ _ c.requires.area.known ((let it : Small c.args.q c.leading_below-f.result.degree c.args.i c.args.s = let first = mul-le-mul {n₁ = c.args.q} {m₁ = c.leading_below-f.result.degree} {n₂ = most_q} {m₂ = most_width} (omega (arith, c.requires.area.few)) (omega (arith, c.requires.area.narrow, c.leading_below-f.ensures.degree_bound)) in
+    let second = mul-le-mul {n₁ = c.args.q + 1} {m₁ = c.args.i} {n₂ = most_q + 1} {m₂ = most_q} (omega (arith, c.requires.area.few)) (omega (arith, c.requires.area.few)) in
+    record { first = first; second = second; all = omega arith } in it)).all in it))) in it))) ∙ c.quotient_of-k.ensures
 
 -- the bounds of the pair, where its partner is what the remainder gave
-held : (c : After-leading_of-g) (w mu : ℕ) → Held c.args.q (record { partner = c.remainder-partner.result; c.After-leading_of-g = to_z w64 (of_z w64 (to_z w64 c.leading_of-g.result.degree -ℤ to_z w64 (of_z w64 (k c.After-leading_of-g)))); w = w; mu = mu; nu = c.leading_of-g.result.coefficient })
-held c w mu = record { partner = rw c.remainder-partner.ensures (parts c.After-leading_below-f).part; c.After-leading_of-g = c-small c.After-leading_of-g }
+held : (c : After-leading_of-g) (w mu : ℕ) → Held c.args.q (record { partner = c.remainder-partner.result; c.After-leading_of-g = to_z w64 (of_z w64 (to_z w64 c.leading_of-g.result.degree -ℤ to_z w64 (of_z w64 ((c.quotient_of-k.result))))); w = w; mu = mu; nu = c.leading_of-g.result.coefficient })
+held c w mu = record { partner = rw c.remainder-partner.ensures ((let it : Divided c.args.q ((c.args.q * c.leading_below-f.result.degree + (c.args.q + 1) * c.args.i + c.args.s)) = divided _ _ c.requires.area.known ((let it : Small c.args.q c.leading_below-f.result.degree c.args.i c.args.s = let first = mul-le-mul {n₁ = c.args.q} {m₁ = c.leading_below-f.result.degree} {n₂ = most_q} {m₂ = most_width} (omega (arith, c.requires.area.few)) (omega (arith, c.requires.area.narrow, c.leading_below-f.ensures.degree_bound)) in
+    let second = mul-le-mul {n₁ = c.args.q + 1} {m₁ = c.args.i} {n₂ = most_q + 1} {m₂ = most_q} (omega (arith, c.requires.area.few)) (omega (arith, c.requires.area.few)) in
+    record { first = first; second = second; all = omega arith } in it)).all in it)).part; c.After-leading_of-g = (let it : nat_abs (to_z w64 (of_z w64 (to_z w64 c.leading_of-g.result.degree -ℤ to_z w64 (of_z w64 ((c.quotient_of-k.result)))))) ≤ most_shift = rw (less-value _ ((c.quotient_of-k.result)) ((let it : c.leading_of-g.result.degree ≤ most_degree = omega (arith, c.requires.area.narrow, c.leading_of-g.ensures.degree_bound) in it)) ((let it : nat_abs ((c.quotient_of-k.result)) ≤ most_degree = rw c.quotient_of-k.ensures (k-small _ _ ((let it : Divided c.args.q ((c.args.q * c.leading_below-f.result.degree + (c.args.q + 1) * c.args.i + c.args.s)) = divided _ _ c.requires.area.known ((let it : Small c.args.q c.leading_below-f.result.degree c.args.i c.args.s = let first = mul-le-mul {n₁ = c.args.q} {m₁ = c.leading_below-f.result.degree} {n₂ = most_q} {m₂ = most_width} (omega (arith, c.requires.area.few)) (omega (arith, c.requires.area.narrow, c.leading_below-f.ensures.degree_bound)) in
+    let second = mul-le-mul {n₁ = c.args.q + 1} {m₁ = c.args.i} {n₂ = most_q + 1} {m₂ = most_q} (omega (arith, c.requires.area.few)) (omega (arith, c.requires.area.few)) in
+    record { first = first; second = second; all = omega arith } in it)).all in it))) in it))) (less-small _ ((c.quotient_of-k.result)) ((let it : c.leading_of-g.result.degree ≤ most_degree = omega (arith, c.requires.area.narrow, c.leading_of-g.ensures.degree_bound) in it)) ((let it : nat_abs ((c.quotient_of-k.result)) ≤ most_degree = rw c.quotient_of-k.ensures (k-small _ _ ((let it : Divided c.args.q ((c.args.q * c.leading_below-f.result.degree + (c.args.q + 1) * c.args.i + c.args.s)) = divided _ _ c.requires.area.known ((let it : Small c.args.q c.leading_below-f.result.degree c.args.i c.args.s = let first = mul-le-mul {n₁ = c.args.q} {m₁ = c.leading_below-f.result.degree} {n₂ = most_q} {m₂ = most_width} (omega (arith, c.requires.area.few)) (omega (arith, c.requires.area.narrow, c.leading_below-f.ensures.degree_bound)) in
+    let second = mul-le-mul {n₁ = c.args.q + 1} {m₁ = c.args.i} {n₂ = most_q + 1} {m₂ = most_q} (omega (arith, c.requires.area.few)) (omega (arith, c.requires.area.few)) in
+    record { first = first; second = second; all = omega arith } in it)).all in it))) in it))) in it) }
 
 pub overflow_sub-c : goal.overflow_sub-c
-overflow_sub-c c = less-fits _ (k (goal.at.overflow_sub-c c).After-leading_of-g) (degree (goal.at.overflow_sub-c c).After-leading_of-g) (low (goal.at.overflow_sub-c c).After-leading_of-g)
+overflow_sub-c c = less-fits _ ((c.quotient_of-k.result)) (degree (goal.at.overflow_sub-c c).After-leading_of-g) (low (goal.at.overflow_sub-c c).After-leading_of-g)
 
 pub in_voted_step-named-requires-clause-i_lt_q : goal.in_voted_step-named-requires-clause-i_lt_q
-in_voted_step-named-requires-clause-i_lt_q c = let small-k : nat_abs (k_is (goal.at.in_voted_step-named-requires-clause-i_lt_q c).After-leading_of-g) ≤ most_degree = k-small _ _ (parts (goal.at.in_voted_step-named-requires-clause-i_lt_q c).After-leading_below-f) in
+in_voted_step-named-requires-clause-i_lt_q c = let small-k : nat_abs ((k_of c.args.q ((c.args.q * c.leading_below-f.result.degree + (c.args.q + 1) * c.args.i + c.args.s)))) ≤ most_degree = k-small _ _ (parts (goal.at.in_voted_step-named-requires-clause-i_lt_q c).After-leading_below-f) in
     rw (c.remainder-partner.ensures, k-is (goal.at.in_voted_step-named-requires-clause-i_lt_q c).After-leading_of-g) (c.requires.i_lt_q.0, (parts (goal.at.in_voted_step-named-requires-clause-i_lt_q c).After-leading_below-f).part, small-k)
 
 pub in_unvoted_step-named-requires-clause-i_lt_q : goal.in_unvoted_step-named-requires-clause-i_lt_q
-in_unvoted_step-named-requires-clause-i_lt_q c = let small-k : nat_abs (k_is (goal.at.in_unvoted_step-named-requires-clause-i_lt_q c).After-leading_of-g) ≤ most_degree = k-small _ _ (parts (goal.at.in_unvoted_step-named-requires-clause-i_lt_q c).After-leading_below-f) in
+in_unvoted_step-named-requires-clause-i_lt_q c = let small-k : nat_abs ((k_of c.args.q ((c.args.q * c.leading_below-f.result.degree + (c.args.q + 1) * c.args.i + c.args.s)))) ≤ most_degree = k-small _ _ (parts (goal.at.in_unvoted_step-named-requires-clause-i_lt_q c).After-leading_below-f) in
     rw (c.remainder-partner.ensures, k-is (goal.at.in_unvoted_step-named-requires-clause-i_lt_q c).After-leading_of-g) (c.requires.i_lt_q.0, (parts (goal.at.in_unvoted_step-named-requires-clause-i_lt_q c).After-leading_below-f).part, small-k)
 
 pub returns-then-voted-clause-held : goal.returns-then-voted-clause-held
