@@ -32,7 +32,7 @@ loop-i-preserved c =
       simp length-set at.invariant.1,
       λ a F row held.
           let old = at.invariant.2 a F row held in (
-            term-more c.args.q c.requires.known c.args.n (symbol _ a) (symbol _ c.args.factor) F c.args.t4 at.i _ (rw row (multiplies _ _ c.requires.known)) (omega arith) at.invariant.0 old.0,
+            term-more c.args.q c.requires.known c.args.n (symbol _ a) (symbol _ c.args.factor) F c.args.products at.i _ (rw row (multiplies _ _ c.requires.known)) (omega arith) at.invariant.0 old.0,
             rw c.sum.ensures (added_more _ c.requires.known _ _ _ F _ _ _ (omega arith) at.invariant.0 (omega arith) old.0 old.1),
           ),
     )
