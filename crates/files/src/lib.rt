@@ -2,7 +2,8 @@
 // in a line on standard output.
 #![tactic(auto)]
 
-ghost use Rattle.std.specs.Prelude.{IfOk};
+ghost use Rattle.std.specs.Prelude.{◌<◌, IfOk, length, take};
+ghost use Rattle.std.specs.Io.KnownBytes.{Consumes, IsAtEnd};
 ghost use Rattle.io.specs.Counts.{IsPrefixLen};
 
 use lines::put_word;
@@ -44,8 +45,10 @@ fn tell(rt: &impl Print, what: &[u8], name: &[u8]) {
 }
 
 // Reads until the buffer is full or the input ends, and answers how many bytes stand at its start.
-pub fn read_full(from: &mut impl Read, buffer: &mut [u8]) -> io::Result<usize>
-    ensures { IfOk result (λ n. IsPrefixLen n buffer.new) }
+pub fn read_full<R: Read>(from: &mut R, buffer: &mut [u8]) -> io::Result<usize>
+    ensures within { IfOk result (λ n. IsPrefixLen n buffer.new) }
+    ensures bytes { IfOk result (λ n. Consumes (R.remaining from.old) (R.remaining from.new) (take n buffer.new)) }
+    ensures whole { IfOk result (λ n. n < length buffer.new → IsAtEnd (R.remaining from.new)) }
 {
     let mut done = 0;
     while done < buffer.len() {
