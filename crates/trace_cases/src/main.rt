@@ -17,8 +17,7 @@ fn print_case<R: Files + Print + Eprint>(rt: &R, name: &str) -> io::Result<()> {
 }
 
 fn main(rt: HostRuntime) -> io::Result<()> {
-    let names = env::args(&rt)?;
-    let names = names.as_slice();
+    let names = env::args(&rt)?.collect::<Vec<String>>(rt.alloc())?;
     let count = names.len();
     let mut i = 1;
     while i < count {
