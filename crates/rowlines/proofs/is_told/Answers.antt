@@ -1,0 +1,11 @@
+use Rattle.rowlines.specs.RowLines.{tells}
+use borrow.Author.Tests.{eq-eqb, ne_eqb}
+use Rattle.rowlines.proofs.is_told.Goals as goal
+
+pub returns-then-state-ne0 : goal.returns-then-state-ne0
+unfolding tells
+returns-then-state-ne0 c = rw (ne_eqb _ _ c.if-state-ne0.true)
+
+pub returns : goal.returns
+unfolding tells
+returns c = rw (eq-eqb _ _ c.if-state-ne0.false)
