@@ -3,19 +3,16 @@
 use mathlib.Core.Path.{◌≡◌, refl}
 use mathlib.Core.Bool.{Bool, true, false, true≢false, false≢true}
 use Prim.Native.Nat.{ℕ}
-use native.Mathlib.Omega.{arith}
-use denote.Enum.Declared.{tag_of}
 use Rattle.answers.specs.declared.Decoded.{Decoded}
 use Rattle.answers.specs.declared.Decoded.TheVariants.{Accepted, Refused}
-use Rattle.answers.specs.contracts.Decoded.{the_type}
 use Rattle.rowstate.specs.Outcome.{outcome}
 
 -- whatever is compared, a refusal has state 2 and no count
-pub outcome-refused : (answer : Decoded) (equal : Bool) → tag_of the_type answer ≡ 1
+pub outcome-refused : (answer : Decoded) (equal : Bool) → ((count : ℕ) → answer ≡ Accepted count → ⊥)
     → record { state = 2; count = 0 } ≡ outcome answer equal
 unfolding outcome
-outcome-refused (Accepted count) equal tag = absurd (omega (arith, tag))
-outcome-refused (Refused why) equal tag = refl
+outcome-refused (Accepted count) equal refused = absurd (refused count refl)
+outcome-refused (Refused why) equal refused = refl
 
 module _ (answer : Decoded) (count : ℕ) (accepted : answer ≡ Accepted count) where
   -- an acceptance of the same message has state 0

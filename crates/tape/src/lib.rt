@@ -1,5 +1,5 @@
-// The layer's calls for programs in other languages, each over the proved call of its crate. include/orbitspinet.h declares them
-// for C and says their promises in words: a slice is passed as a pointer and a length, and every answer is one integer.
+// The layer's calls as programs in other languages make them, each over the proved call of its crate: every answer is one integer.
+// Crate tape_c exports them to C with the same clauses.
 #![tactic(auto)]
 
 ghost use Rattle.std.specs.Prelude.{◌≡◌, pos, length};
@@ -18,8 +18,7 @@ use passing::pass_on;
 use steps::stop;
 
 // Writes a message's row; 0, or minus a refusal's number.
-#[unsafe(no_mangle)]
-pub extern "C" fn tape_encode(q: u64, u: u64, message: &[u8], row: &mut [u8]) -> i64
+pub fn tape_encode(q: u64, u: u64, message: &[u8], row: &mut [u8]) -> i64
     ensures result { result ≡ encode_result (encode_answer q u message.now row.old) }
     ensures row { row.new ≡ encode_output q u message.now row.old }
 {
@@ -28,15 +27,7 @@ pub extern "C" fn tape_encode(q: u64, u: u64, message: &[u8], row: &mut [u8]) ->
 }
 
 // Takes so many steps on a row, and leaves their picture and the votes; 0, or minus a refusal's number.
-#[unsafe(no_mangle)]
-pub extern "C" fn tape_stop(
-    q: u64,
-    u: u64,
-    steps: u64,
-    row: &[u8],
-    work: &mut [u8],
-    votes: &mut [u8],
-) -> i64
+pub fn tape_stop(q: u64, u: u64, steps: u64, row: &[u8], work: &mut [u8], votes: &mut [u8]) -> i64
     ensures result { result ≡ stop_result (stop_answer q u steps row.now work.old votes.old) }
     ensures work { work.new ≡ stop_work q u steps row.now work.old votes.old }
     ensures votes { votes.new ≡ stop_output q u steps row.now work.old votes.old }
@@ -46,8 +37,7 @@ pub extern "C" fn tape_stop(
 }
 
 // Writes the message and the corrected row; the count of places that differ, or minus a refusal's number.
-#[unsafe(no_mangle)]
-pub extern "C" fn tape_decode(
+pub fn tape_decode(
     q: u64,
     u: u64,
     row: &[u8],
@@ -67,8 +57,7 @@ pub extern "C" fn tape_decode(
 
 // Says which row is passed on after a decoding, in `from`, and how many of that row's first symbols are: a part of a lent row
 // does not cross to C as an answer.
-#[unsafe(no_mangle)]
-pub extern "C" fn tape_pass_on<'a>(
+pub fn tape_pass_on<'a>(
     q: u64,
     decoded: i64,
     received: &'a [u8],
@@ -85,8 +74,7 @@ pub extern "C" fn tape_pass_on<'a>(
 }
 
 // Writes the block of a payload; its length in bytes, or minus a refusal's number.
-#[unsafe(no_mangle)]
-pub extern "C" fn tape_write(payload: &[u8], block: &mut [u8]) -> i64
+pub fn tape_write(payload: &[u8], block: &mut [u8]) -> i64
     ensures result { result ≡ write_result (write_answer payload.now block.old) }
     ensures block { block.new ≡ write_block payload.now block.old }
 {
@@ -96,8 +84,7 @@ pub extern "C" fn tape_write(payload: &[u8], block: &mut [u8]) -> i64
 
 // Compares a block with its payload, two bytes a record; 0 copied, 1 differs, 2 unreadable, or minus a refusal's number. The
 // total or the row goes to `at`, C's way to return a second result.
-#[unsafe(no_mangle)]
-pub extern "C" fn tape_verify(
+pub fn tape_verify(
     block: &[u8],
     payload: &[u8],
     records: &mut [u8],

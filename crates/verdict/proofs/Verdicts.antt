@@ -1,20 +1,15 @@
 -- The verdict, row by row: before the first row, after one row more, and after all rows.
 -- Assumes nothing.
 use mathlib.Core.Path.{◌≡◌, refl, sym, ap, ◌∙◌}
-use mathlib.Core.Logic.{⊎_elim}
 use mathlib.Core.Bool.{Bool, true, false}
-use mathlib.Core.List.{[], ◌∷◌}
 use Prim.Native.Nat.{ℕ, zero, ◌+◌}
 use native.Mathlib.Omega.{arith}
 use lib.Dec.{eqb}
-use types.Run.{OneOf}
-use denote.Enum.Declared.{tag_of}
 use borrow.Author.Tests.{eq-eqb, ne_eqb}
 use Rattle.verdict.specs.RowByRow.{rows_to_read, next_verdict}
 use Rattle.answers.specs.declared.Record.{Record}
 use Rattle.answers.specs.declared.Verified.{Verified}
 use Rattle.answers.specs.declared.Verified.TheVariants.{Copied, Differs, Unreadable, Refused}
-use Rattle.answers.specs.contracts.Verified.{the_type}
 
 -- what a row makes of the verdict so far, by whether its state is 0 and whether it is 1: where it is equal, what `equal` says
 abbrev pub by_state : Bool → Bool → ℕ → Verified → Verified
@@ -24,33 +19,26 @@ by_state is_zero is_one r equal =
       | false ↦ elim is_one as (λ b. Verified) [ true ↦ Differs r | false ↦ Unreadable r ]
     ]
 
--- the tag of Copied is none of the others'
-no_other_tag : OneOf (1 ∷ 2 ∷ 3 ∷ []) 0 → ⊥
-no_other_tag tag = ⊎_elim (λ e. omega arith) (λ later. ⊎_elim (λ e. omega arith) (λ e. omega arith) later) tag
-
 -- a verdict that is not Copied stays
-pub settled-stays : (v : Verified) (r : ℕ) (x : Record) → OneOf (1 ∷ 2 ∷ 3 ∷ []) (tag_of the_type v) → v ≡ next_verdict v r x
+pub settled-stays : (v : Verified) (r : ℕ) (x : Record) → ((total : ℕ) → v ≡ Copied total → ⊥) → v ≡ next_verdict v r x
 unfolding next_verdict
-settled-stays (Copied total) r x tag = absurd (no_other_tag tag)
-settled-stays (Differs i) r x tag = refl
-settled-stays (Unreadable i) r x tag = refl
-settled-stays (Refused why) r x tag = refl
+settled-stays (Copied total) r x settled = absurd (settled total refl)
+settled-stays (Differs i) r x settled = refl
+settled-stays (Unreadable i) r x settled = refl
+settled-stays (Refused why) r x settled = refl
 
 -- and has no rows read
-pub settled-reads-none : (v : Verified) (rows : ℕ) → OneOf (1 ∷ 2 ∷ 3 ∷ []) (tag_of the_type v) → 0 ≡ rows_to_read v rows
+pub settled-reads-none : (v : Verified) (rows : ℕ) → ((total : ℕ) → v ≡ Copied total → ⊥) → 0 ≡ rows_to_read v rows
 unfolding rows_to_read
-settled-reads-none (Copied total) rows tag = absurd (no_other_tag tag)
-settled-reads-none (Differs i) rows tag = refl
-settled-reads-none (Unreadable i) rows tag = refl
-settled-reads-none (Refused why) rows tag = refl
+settled-reads-none (Copied total) rows settled = absurd (settled total refl)
+settled-reads-none (Differs i) rows settled = refl
+settled-reads-none (Unreadable i) rows settled = refl
+settled-reads-none (Refused why) rows settled = refl
 
 -- Copied has them all
-pub copied-reads-all : (v : Verified) (rows : ℕ) → tag_of the_type v ≡ 0 → rows ≡ rows_to_read v rows
+pub copied-reads-all : (total rows : ℕ) → rows ≡ rows_to_read (Copied total) rows
 unfolding rows_to_read
-copied-reads-all (Copied total) rows tag = refl
-copied-reads-all (Differs i) rows tag = absurd (omega (arith, tag))
-copied-reads-all (Unreadable i) rows tag = absurd (omega (arith, tag))
-copied-reads-all (Refused why) rows tag = absurd (omega (arith, tag))
+copied-reads-all total rows = refl
 
 -- one row more, by its state
 module _ (total r : ℕ) (x : Record) where

@@ -1,0 +1,22 @@
+-- `evaluation::column` meets its contract. The loop's invariant: the values for the powers of y passed. Assumes nothing.
+use mathlib.Core.Path.{◌≡◌, sym, ap, ◌∙◌}
+use Prim.Native.Nat.{◌+◌, ◌-◌, ◌*◌, ◌≤◌}
+use native.Mathlib.Omega.{arith}
+use lib.ListN.{replicate, length-take, length-drop}
+use borrow.Author.Rules.{rules}
+use Rattle.algebra.specs.Functions.{Fn}
+use Rattle.lists.specs.Tables.{put}
+use Rattle.lists.proofs.Put.{put-none, put_next}
+use Rattle.symbols.specs.Sizes.{most_q, most_symbols}
+use Rattle.symbols.specs.Rule.{symbols}
+use Rattle.symbols.proofs.Bytes.{known-high}
+use Rattle.evaluation.specs.Stages.{HoldsFunction, column_number}
+use Rattle.evaluation.proofs.Values.{column-value}
+use Rattle.evaluation.proofs.column.Given as goal
+
+abbrev pub invariant-loop-j : goal.invariant-loop-j
+invariant-loop-j l =
+    (l.j ≤ l.q) × ((f : Fn (symbols l.q) l.q) → HoldsFunction l.q f l.places → l.values ≡ put (replicate most_q 0) 0 l.j (column_number l.q f l.width l.x))
+
+abbrev pub decreases-loop-j : goal.decreases-loop-j
+decreases-loop-j l = l.q - l.j

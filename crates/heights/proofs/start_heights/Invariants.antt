@@ -1,0 +1,24 @@
+-- Each turn puts a 1 for one f more.
+-- Assumes nothing.
+use mathlib.Core.Path.{◌≡◌, refl}
+use Prim.Native.Nat.{ℕ, ◌-◌, ◌*◌, ◌<◌, ◌≤◌}
+use native.Mathlib.Omega.{arith}
+use lib.ListN.{length, get_or, length-set}
+use borrow.Author.Rules.{rules}
+use Rattle.symbols.specs.Sizes.{most_polynomials}
+use Rattle.lists.proofs.Put.{set_holds}
+use Rattle.lists.proofs.Tables.{replicate-at}
+use Rattle.workarea.proofs.Sizes.{sizes}
+use Rattle.heights.proofs.start_heights.Given as goal
+
+-- what stands at place n
+pub record Placed (q n height : ℕ) : Type 0 where
+  pub g-none : n < q → height ≡ 0
+  pub f-one : q ≤ n → height ≡ 1
+
+abbrev pub invariant-loop-p : goal.invariant-loop-p
+invariant-loop-p l =
+    (l.q ≤ l.p) × (l.p ≤ 2 * l.q) × (l.p-end ≡ 2 * l.q) × (length l.heights ≡ most_polynomials) × ((n : ℕ) → n < l.p → Placed l.q n (get_or l.heights n 0))
+
+abbrev pub decreases-loop-p : goal.decreases-loop-p
+decreases-loop-p l = 2 * l.q - l.p

@@ -1,0 +1,46 @@
+use mathlib.Core.Path.{◌≡◌, refl, ap, ◌∙◌}
+use mathlib.Core.List.{◌++◌}
+use Prim.Native.Nat.{◌+◌, ◌-◌, ◌*◌, ◌≤◌, ◌<◌}
+use native.Mathlib.Omega.{arith}
+use lib.ListN.{length, get_or, drop, length-set}
+use borrow.Author.Rules.{rules}
+use Rattle.lists.specs.Tables.{from, tab}
+use Rattle.lists.proofs.Filled.{fill-next, fill-all}
+use Rattle.symbols.proofs.SymbolLists.{below_all}
+use Rattle.packing.specs.Packing.{packed_byte, packed, packed_q}
+use Rattle.packing.proofs.pack.Goals as goal
+use Rattle.packing.proofs.pack.Goals.{In-loop-i}
+
+-- both symbols are below 16
+small : (c : In-loop-i) → let symbols = c.args.symbols.now in
+    (get_or symbols (2 * c.loop-i.i) 0 < 16) × (get_or symbols (2 * c.loop-i.i + 1) 0 < 16)
+small c =
+    let below = below_all packed_q c.args.symbols.now c.requires.1 in
+    (below (2 * c.loop-i.i) (omega arith), below (2 * c.loop-i.i + 1) (omega arith))
+
+pub loop-i-init : goal.loop-i-init
+unfolding tab from
+loop-i-init c = (search rules, refl, refl)
+
+pub overflow_mul-bytes : goal.overflow_mul-bytes
+overflow_mul-bytes c = omega (arith, small (goal.at.overflow_mul-bytes c).In-loop-i)
+
+pub overflow_add-bytes : goal.overflow_add-bytes
+overflow_add-bytes c = omega (arith, small (goal.at.overflow_add-bytes c).In-loop-i)
+
+pub loop-i-preserved : goal.loop-i-preserved
+unfolding packed_byte
+loop-i-preserved c =
+    let start = c.args in (
+      search rules,
+      simp length-set c.loop-i.invariant.1,
+      rw c.loop-i.invariant.2 (fill-next (packed_byte start.symbols.now) c.loop-i.i start.bytes.now (omega arith)),
+    )
+
+pub returns : goal.returns
+unfolding packed
+returns c =
+    let start = c.args in
+    let f = packed_byte start.symbols.now in
+    let end : c.loop-i.i ≡ length start.bytes.now = omega arith in
+    c.loop-i.invariant.2 ∙ fill-all f c.loop-i.i start.bytes.now (omega arith) ∙ ap (λ n. tab n f) end

@@ -1,0 +1,19 @@
+-- `packing::pack` meets its contract: after i bytes the first i are those of the symbols. Assumes nothing.
+use mathlib.Core.Path.{◌≡◌, refl, ap, ◌∙◌}
+use mathlib.Core.List.{◌++◌}
+use Prim.Native.Nat.{◌+◌, ◌-◌, ◌*◌, ◌≤◌, ◌<◌}
+use native.Mathlib.Omega.{arith}
+use lib.ListN.{length, get_or, drop, length-set}
+use borrow.Author.Rules.{rules}
+use Rattle.lists.specs.Tables.{from, tab}
+use Rattle.lists.proofs.Filled.{fill-next, fill-all}
+use Rattle.symbols.proofs.SymbolLists.{below_all}
+use Rattle.packing.specs.Packing.{packed_byte, packed, packed_q}
+use Rattle.packing.proofs.pack.Given as goal
+
+abbrev pub invariant-loop-i : goal.invariant-loop-i
+invariant-loop-i l =
+    (l.i ≤ length l.initial.bytes) × (length l.bytes ≡ length l.initial.bytes) × (l.bytes ≡ tab l.i (packed_byte l.symbols) ++ drop l.i l.initial.bytes)
+
+abbrev pub decreases-loop-i : goal.decreases-loop-i
+decreases-loop-i l = length l.initial.bytes - l.i

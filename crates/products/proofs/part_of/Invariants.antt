@@ -1,0 +1,17 @@
+-- `symbols::part_of` meets its contract. The loop's invariant: the places passed hold the table's part. Assumes nothing.
+use mathlib.Core.Path.{◌≡◌, refl, sym}
+use Prim.Native.Nat.{◌-◌, ◌≤◌}
+use native.Mathlib.Omega.{arith}
+use lib.ListN.{replicate}
+use borrow.Author.Rules.{rules}
+use Rattle.lists.specs.Tables.{put}
+use Rattle.lists.proofs.Put.{put-none, put_next}
+use Rattle.symbols.specs.Sizes.{most_symbols}
+use Rattle.symbols.specs.Tables.{places_on}
+use Rattle.products.proofs.part_of.Given as goal
+
+abbrev pub invariant-loop-i : goal.invariant-loop-i
+invariant-loop-i l = (l.i ≤ l.n) × (l.row ≡ put (replicate most_symbols 0) 0 l.i (places_on l.table l.start))
+
+abbrev pub decreases-loop-i : goal.decreases-loop-i
+decreases-loop-i l = l.n - l.i

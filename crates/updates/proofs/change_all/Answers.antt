@@ -1,0 +1,43 @@
+use mathlib.Core.Path.{◌≡◌}
+use Prim.Native.Nat.{ℕ, ◌-◌, ◌≤◌, ◌<◌}
+use native.Mathlib.Omega.{arith}
+use lib.ListN.{length}
+use Rattle.lists.specs.Tables.{tab}
+use Rattle.symbols.specs.Rule.{symbols, Sym, number}
+use Rattle.published.specs.Start.{Polynomials}
+use Rattle.published.specs.Pairing.{Pairing}
+use Rattle.published.specs.Steps.{updated}
+use Rattle.workarea.specs.Area.{cells_of}
+use Rattle.workarea.specs.Heights.{Heights, WithinHeights, BecomesBelow}
+use Rattle.pair.specs.Pairs.{NumbersOf, pair_at}
+use Rattle.workarea.proofs.Cells.{still}
+use Rattle.workarea.proofs.Becoming.{becomes-same, becomes-below}
+use Rattle.updates.proofs.ChangeLaws.{updated_none, updated-more}
+use borrow.Author.Rules.{rules}
+use Rattle.updates.proofs.change_all.Goals as goal
+
+pub loop-i-init : goal.loop-i-init
+loop-i-init c =
+    (
+      search rules,
+      search rules,
+      search rules,
+      c.requires.heights,
+      λ S ω P ev n below.
+          let none = updated_none _ S ω (tab _ P) in
+          record { becomes = becomes-same _ S _ none; below = rw none below },
+    )
+
+pub loop-i-preserved : goal.loop-i-preserved
+loop-i-preserved c =
+    let turn = c.loop-i in
+    let more = c.loop-i-test.true in (
+      search rules,
+      search rules,
+      search rules,
+      c.change.ensures.heights_2,
+      λ S ω P ev n below.
+          let done = turn.invariant.4 S ω P ev n below in
+          rw (← updated-more _ S ω P turn.i more)
+          (becomes-below _ done (c.change.ensures.becomes_below (updated (symbols _) _ ω (tab _ P) S turn.i) ω (P turn.i) ev (n turn.i more) done.below)),
+    )

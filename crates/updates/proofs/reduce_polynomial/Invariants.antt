@@ -1,0 +1,21 @@
+-- Each turn subtracts one row more.
+-- Assumes nothing.
+use mathlib.Core.Path.{◌≡◌}
+use Prim.Native.Nat.{◌-◌, ◌*◌, ◌≤◌}
+use native.Mathlib.Omega.{arith}
+use lib.ListN.{length}
+use Rattle.symbols.specs.Rule.{Sym}
+use Rattle.workarea.specs.Area.{Turns, Multiplies}
+use Rattle.updates.specs.Updates.{polynomial_reduced}
+use Rattle.workarea.proofs.Cells.{still, turns-none, turns_same, turns-both}
+use Rattle.updates.proofs.UpdateCells.{reduced-none, reduced-more}
+use borrow.Author.Rules.{rules}
+use Rattle.updates.proofs.reduce_polynomial.Given as goal
+
+abbrev pub invariant-loop-r : goal.invariant-loop-r
+invariant-loop-r l =
+    (l.r ≤ 2 * l.q) × (length l.work ≡ length l.initial.work)
+    × ((ρ : Sym l.q) → Multiplies l.q l.products ρ → Turns l.q l.initial.work l.work (polynomial_reduced l.q l.f l.g l.height l.shift ρ l.r))
+
+abbrev pub decreases-loop-r : goal.decreases-loop-r
+decreases-loop-r l = 2 * l.q - l.r
