@@ -1,4 +1,5 @@
 -- The words, the count, the message and the line's end, one after the other.
+-- Assumes nothing.
 use Rattle.std.proofs.Common.{arith, length-append}
 use Rattle.lines.specs.Text.{ascii}
 use Rattle.lines.proofs.Writing.{wrote-more}

@@ -1,4 +1,5 @@
 -- The word, the number and the line's end, one after the other.
+-- Assumes nothing.
 use Rattle.std.proofs.Common.{arith}
 use Rattle.lines.specs.Text.{ascii}
 use Rattle.lines.proofs.Writing.{wrote-more}

@@ -1,4 +1,5 @@
 -- The weight, the vote, the degrees and the line's end, one after the other.
+-- Assumes nothing.
 use Rattle.std.proofs.Common.{arith, length-append}
 use Rattle.lines.proofs.Writing.{wrote-more}
 use Rattle.report.specs.Report.{step_text}

@@ -1,3 +1,5 @@
+-- By whether there is a vote: a space and its digits, or " -".
+-- Assumes nothing.
 use Rattle.lines.specs.Text.{ascii}
 use Rattle.report.specs.Report.{vote_text}
 use Rattle.report.proofs.put_vote.Goals as goal

@@ -1,5 +1,7 @@
+-- The tests of the byte are those of the definition.
+-- Assumes nothing.
+use Rattle.std.proofs.Common.{eq-eqb, ne_eqb}
 use Rattle.asking.specs.Request.{ends_number}
-use borrow.Author.Tests.{eq-eqb, ne_eqb}
 use Rattle.request.proofs.ends_number.Goals as goal
 
 pub returns-then-byte-eq32 : goal.returns-then-byte-eq32

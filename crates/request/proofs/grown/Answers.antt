@@ -1,7 +1,9 @@
-use Rattle.std.proofs.Common.{ℕ, ◌+◌, ◌*◌, ◌%◌, ap, arith}
+-- The digit goes in as the definition says, and a remainder by 1000 is below it.
+-- Assumes nothing.
+use Rattle.std.proofs.Common.{arith}
 use Rattle.asking.specs.Request.{grown}
 use Rattle.request.proofs.grown.Goals as goal
 
 pub returns : goal.returns
 unfolding grown
-returns c = (ap (λ (d : ℕ). (c.args.value * 10 + d) % 1000) c.digit_of.ensures, omega arith)
+returns c = (rw c.digit_of.ensures, omega arith)

@@ -1,4 +1,5 @@
 -- What has been read and what is left have the numbers of the text from the place on.
+-- Assumes nothing.
 use Rattle.std.proofs.Common.{◌≡◌, ◌-◌, ◌≤◌, ◌<◌, length, drop}
 use Rattle.asking.specs.Request.{numbers_from}
 use Rattle.request.proofs.number_at.Given as goal

@@ -1,37 +1,34 @@
-use Rattle.std.proofs.Common.{◌<◌, arith, length, length-set}
+-- Each number that is found goes into the row, and where none is left the row has them all.
+-- Assumes nothing.
+use Rattle.std.proofs.Common.{arith, length-set, ◌<◌, length}
 use Rattle.asking.specs.Request.{as_byte}
 use Rattle.asking.proofs.Numbers.{row_more, row-whole, numbers-past}
-use Rattle.request.proofs.Searching.{found_number, found-end}
+use Rattle.request.specs.Reader.{FoundIn}
 use Rattle.request.proofs.read_row.Goals as goal
 
 pub returns-in_default-clause-row_after : goal.returns-in_default-clause-row_after
+unfolding FoundIn
 returns-in_default-clause-row_after c =
-    let none = found-end c.args.text.now c.loop-at.at c.in_default.is c.number_at.ensures in
-    row-whole c.args.text.now c.loop-at.row c.args.from c.loop-at.at c.loop-at.count c.loop-at.invariant.numbers none
+    row-whole c.args.text.now c.loop-at.row c.args.from c.loop-at.at c.loop-at.count c.loop-at.invariant.so_far c.in_default.ensures
 
 pub loop-at-smaller : goal.loop-at-smaller
-loop-at-smaller c =
-    let found = found_number c.args.text.now c.loop-at.at c.in-Number.is c.number_at.ensures in
-    omega (arith, found.later, found.within)
+unfolding FoundIn
+loop-at-smaller c = omega (arith, c.in-Number.ensures.later, c.in-Number.ensures.within)
 
 pub loop-at-preserved : goal.loop-at-preserved
-unfolding as_byte
+unfolding FoundIn as_byte
 loop-at-preserved c =
-    let text = c.args.text.now in
-    let head = c.loop-at in
-    let found = found_number text head.at c.in-Number.is c.number_at.ensures in
-    let room : head.count < length head.row =
-    omega (arith, head.invariant.taken, head.invariant.same_length, c.requires, c.loop-at-test.true) in
+    let found = c.in-Number.ensures in
+    let room : c.loop-at.count < length c.loop-at.row = omega arith in
     record {
-      taken = omega (arith, found.later, head.invariant.taken);
-      within = simp length-set (omega (arith, room));
-      same_length = simp length-set head.invariant.same_length;
-      numbers =
-          row_more text head.row c.args.from head.at c.in-Number.next head.count c.in-Number.value room head.invariant.numbers
-          found.numbers;
+      room = omega (arith, found.later);
+      within = simp length-set (omega arith);
+      so_far =
+          row_more c.args.text.now c.loop-at.row c.args.from c.loop-at.at c.in-Number.next c.loop-at.count c.in-Number.value room
+          c.loop-at.invariant.so_far found.numbers;
     }
 
 pub returns-clause-row_after : goal.returns-clause-row_after
 returns-clause-row_after c =
-    let none = numbers-past c.args.text.now c.loop-at.at c.loop-at-test.false in
-    row-whole c.args.text.now c.loop-at.row c.args.from c.loop-at.at c.loop-at.count c.loop-at.invariant.numbers none
+    let none = numbers-past 0 c.args.text.now c.loop-at.at c.loop-at-test.false in
+    row-whole c.args.text.now c.loop-at.row c.args.from c.loop-at.at c.loop-at.count c.loop-at.invariant.so_far none

@@ -1,17 +1,16 @@
--- The row so far and the numbers of what is left are the numbers of the text from the place on, and each number took a byte at
--- least, so that the row has room.
-use Rattle.std.proofs.Common.{◌≡◌, ◌++◌, ◌+◌, ◌-◌, ◌≤◌, map, length, take, drop}
+-- The row so far and the numbers of what is left are the numbers of the text from the place on, and each number took a byte
+-- at least, so that the row has room.
+-- Assumes nothing.
+use Rattle.std.proofs.Common.{◌≡◌, ◌+◌, ◌-◌, ◌≤◌, ◌++◌, length, map, take, drop}
 use Rattle.asking.specs.Request.{numbers_from, as_byte}
 use Rattle.request.proofs.read_row.Given as goal
 
 abbrev pub invariant-loop-at : goal.invariant-loop-at
 invariant-loop-at l =
     record {
-      taken : l.from + l.count ≤ l.at;
+      room : l.from + l.count ≤ l.at;
       within : l.count ≤ length l.row;
-      same_length : length l.row ≡ length l.initial.row;
-      numbers :
-          map as_byte (numbers_from 0 (drop l.from l.text)) ≡ take l.count l.row ++ map as_byte (numbers_from 0 (drop l.at l.text));
+      so_far : map as_byte (numbers_from 0 (drop l.from l.text)) ≡ take l.count l.row ++ map as_byte (numbers_from 0 (drop l.at l.text));
     }
 
 abbrev pub decreases-loop-at : goal.decreases-loop-at

@@ -1,4 +1,5 @@
 -- The line's four pieces are written one after the other.
+-- Assumes nothing.
 use Rattle.std.proofs.Common.{arith}
 use Rattle.requesttext.proofs.Written.{length-code, wrote-code}
 use Rattle.requesttext.proofs.put_code.Goals as goal

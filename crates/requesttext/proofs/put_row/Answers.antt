@@ -1,4 +1,5 @@
 -- The line's three pieces are written one after the other.
+-- Assumes nothing.
 use Rattle.std.proofs.Common.{arith}
 use Rattle.requesttext.proofs.Written.{length-row, wrote-row}
 use Rattle.requesttext.proofs.put_row.Goals as goal
