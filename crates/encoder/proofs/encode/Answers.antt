@@ -20,14 +20,14 @@ returns-in-Code-clause-value c = let message = c.args.message.now in
     let output = c.args.output.now in
     let named = found (goal.at.returns-in-Code-clause-value c).In-Code in
     let done = c.encode_under.ensures in
-    done.0 ∙ ap (λ (code : Code). encode_answer code.q code.u message output) named.is
+    done.value ∙ ap (λ (code : Code). encode_answer code.q code.u message output) named.is
 
 pub returns-in-Code-clause-output_left : goal.returns-in-Code-clause-output_left
 returns-in-Code-clause-output_left c = let message = c.args.message.now in
     let output = c.args.output.now in
     let named = found (goal.at.returns-in-Code-clause-output_left c).In-Code in
     let done = c.encode_under.ensures in
-    done.1 ∙ ap (λ (code : Code). encode_output code.q code.u message output) named.is
+    done.output_left ∙ ap (λ (code : Code). encode_output code.q code.u message output) named.is
 
 pub returns-in-Refused : goal.returns-in-Refused
 returns-in-Refused c = let all = refused-by-code _ _ _ _ (named-refused _ _ (sym c.code_of.ensures ∙ c.in-Refused.is)) in record { value = all.0; output_left = all.1 }

@@ -24,7 +24,7 @@ spread-places-requires c =
     (pre.0.known, code_below _ _ pre.0.accepted, pre.1.whole)
 
 pub nonzero_div-width : goal.nonzero_div-width
-nonzero_div-width c = ?
+nonzero_div-width c = known-positive _ c.requires.0.known
 
 pub overflow_add-width : goal.overflow_add-width
 overflow_add-width c =
@@ -77,7 +77,7 @@ loop-x-preserved c =
     let more : c.loop-x.x < q * q = c.loop-x-test.true in
     let held = column-holds q k f (u / q + 1) c.loop-x.x values.result (values.ensures f places) in (
       omega (arith, more),
-      c.fill_fibre.auto.1.1.1.1.0 ∙ c.loop-x.invariant.1,
+      c.fill_fibre.auto.row ∙ c.loop-x.invariant.1,
       c.fill_fibre.ensures _ held
           ∙ (rw c.loop-x.invariant.2 (next-column q u message k small c.args.row.now c.loop-x.x more)),
     )

@@ -9,7 +9,7 @@ use Rattle.curve.specs.Given.{Message}
 use Rattle.curve.proofs.GivenChecks.{valid-passes, given-passes, wrong-length, no_symbol}
 use Rattle.encoder.proofs.EncodeChecks.{refused-by-message, refused-by-output, not-refused}
 use Rattle.encoder.proofs.encode_under.Goals as goal
-use Rattle.encoder.proofs.encode_under.Goals.{Else-message-code, Else-not-all_symbols, Else-output-code}
+use Rattle.encoder.proofs.encode_under.Goals.{Else-message-code, Else-not-all_symbols}
 
 -- what the tests passed say: the message is k long, and its bytes are symbols
 long : (c : Else-message-code) → length c.args.message.now ≡ dimension c.args.code.q c.args.code.u
@@ -35,9 +35,9 @@ pub returns-then-output-code : goal.returns-then-output-code
 returns-then-output-code c = let all = refused-by-output _ _ _ _ (valid-passes c.requires) (given-passes (message (goal.at.returns-then-output-code c).Else-not-all_symbols)) (rw c.requires.n-is at c.if-output-code.true) in record { value = all.0; output_left = all.1 }
 
 pub returns-clause-value : goal.returns-clause-value
-returns-clause-value c = let answer = not-refused _ _ _ _ (valid-passes c.requires) (given-passes (message (goal.at.returns-clause-value c).Else-not-all_symbols)) (rw c.requires.n-is (goal.at.returns-clause-value c).Else-output-code c.if-output-code.false) in
+returns-clause-value c = let answer = not-refused _ _ _ _ (valid-passes c.requires) (given-passes (message (goal.at.returns-clause-value c).Else-not-all_symbols)) (rw c.requires.n-is at c.if-output-code.false) in
     answer.0
 
 pub returns-clause-output_left : goal.returns-clause-output_left
-returns-clause-output_left c = let answer = not-refused _ _ _ _ (valid-passes c.requires) (given-passes (message (goal.at.returns-clause-output_left c).Else-not-all_symbols)) (rw c.requires.n-is (goal.at.returns-clause-output_left c).Else-output-code c.if-output-code.false) in
+returns-clause-output_left c = let answer = not-refused _ _ _ _ (valid-passes c.requires) (given-passes (message (goal.at.returns-clause-output_left c).Else-not-all_symbols)) (rw c.requires.n-is at c.if-output-code.false) in
     c.encode_row.ensures ∙ answer.1

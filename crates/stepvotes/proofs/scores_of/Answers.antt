@@ -19,10 +19,10 @@ use Rattle.stepvotes.proofs.scores_of.Goals.{After-positive_part}
 
 -- what the call gives is the positive part of c, and small
 gain-is : (c : After-positive_part)
-    → let pair = pair_at c.args.t1 c.loop-i.i in
+    → let pair = pair_at c.args.pairs c.loop-i.i in
     (c.positive_part.result ≡ positive_part pair.c) × (c.positive_part.result ≤ most_shift)
 gain-is c =
-    let pair = pair_at c.args.t1 c.loop-i.i in
+    let pair = pair_at c.args.pairs c.loop-i.i in
     let held = c.requires.by_index c.loop-i.i c.loop-i-test.true in
     let e : c.positive_part.result ≡ positive_part pair.c = c.positive_part.ensures ∙ ap positive_part (back pair.c held.c) in
     (e, rw e (omega (arith, positive-small pair.c, held.c)))
@@ -39,12 +39,12 @@ bounds-pairs-i c = omega (arith, sizes _ c.requires.known)
 
 pub overflow_add-scores : goal.overflow_add-scores
 overflow_add-scores c =
-    let w = (pair_at c.args.t1 c.loop-i.i).w in
+    let w = (pair_at c.args.pairs c.loop-i.i).w in
     omega (arith, (gain-is (goal.at.overflow_add-scores c).After-positive_part).1, c.loop-i.invariant.2 (w % most_symbols), sizes _ c.requires.known)
 
 pub loop-i-preserved : goal.loop-i-preserved
 loop-i-preserved c =
-    let w = (pair_at c.args.t1 c.loop-i.i).w in
+    let w = (pair_at c.args.pairs c.loop-i.i).w in
     let small = mod-lt w {m = most_symbols} (omega arith) in
     let room : w % most_symbols < length c.loop-i.scores = omega arith in
     let g = gain-is (goal.at.loop-i-preserved c).After-positive_part in

@@ -14,11 +14,10 @@ returns-then-vote-eq0 c = λ S ω ev below. becomes-same _ S _ (substituted-none
 pub returns-in_default : goal.returns-in_default
 returns-in_default c = λ S ω ev below. absurd (not-gap _ _ _ (c.requires.s_le_most_degree.1 c.if-vote-eq0.false) c.monomial_of-monomial.ensures c.in_default.is)
 
-pub replace_z-requires : goal.replace_z-requires
-replace_z-requires c = let e = powers-of _ _ _ _ _ (c.requires.s_le_most_degree.1 c.if-vote-eq0.false) c.monomial_of-monomial.ensures c.in
-    -Powers.is in
+pub replace_z-requires-clause-y_lt_q : goal.replace_z-requires-clause-y_lt_q
+replace_z-requires-clause-y_lt_q c = let e = powers-of _ _ _ _ _ (c.requires.s_le_most_degree.1 c.if-vote-eq0.false) c.monomial_of-monomial.ensures c.in-Powers.is in
     let b = powers-small c.args.q c.args.s (omega (arith, c.requires.area.some)) in
-    (c.requires.area, (c.requires.q_in_bounds, rw (e.0, e.1) (b.0, omega (arith, b.1)))) -- ?? clause
+    rw (e.0, e.1) (b.0, omega (arith, b.1))
 
 pub returns : goal.returns
 returns c =

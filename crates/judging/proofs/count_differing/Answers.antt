@@ -1,0 +1,26 @@
+use mathlib.Core.Path.{◌≡◌}
+use mathlib.Core.Logic.{⊎_elim}
+use Prim.Native.Nat.{◌+◌, ◌≤◌, ◌-◌}
+use native.Mathlib.Omega.{arith}
+use lib.ListN.{length}
+use borrow.Author.Rules.{rules}
+use Rattle.judging.specs.Judging.{differing}
+use Rattle.judging.proofs.Differing.{differing_from, from_first, past_end, place-differs, place-agrees}
+use Rattle.judging.proofs.count_differing.Goals as goal
+use Rattle.judging.proofs.count_differing.Goals.{then-a-i, else-a-i}
+
+pub loop-i-init : goal.loop-i-init
+loop-i-init c = (omega arith, c.requires, omega arith, omega (arith, from_first c.args.a.now c.args.b.now))
+
+pub loop-i-preserved : goal.loop-i-preserved
+loop-i-preserved c =
+    let a = c.args.a.now in
+    let b = c.args.b.now in
+    elim c.if-a-i.branch [
+      | then-a-i w ↦ omega (arith, place-differs c.loop-i.i a b (omega arith) (omega arith) w.if-a-i.true)
+      | else-a-i w ↦ omega (arith, place-agrees c.loop-i.i a b (omega arith) (omega arith) w.if-a-i.false)
+    ]
+
+pub returns : goal.returns
+returns c =
+    omega (arith, past_end c.loop-i.i c.args.a.now c.args.b.now (omega arith))

@@ -1,0 +1,12 @@
+-- `judging::judge` meets its contract. Assumes nothing.
+use mathlib.Core.Path.{sym, ap, ◌∙◌}
+use borrow.Author.Rules.{rules}
+use lib.ListN.{length}
+use Rattle.judging.specs.Judging.{differing, count_of}
+use Rattle.encoder.proofs.RowSymbols.{length-row_numbers, row_first}
+use Rattle.judging.proofs.judge.Goals as goal
+
+pub returns-clause-value : goal.returns-clause-value
+unfolding count_of
+returns-clause-value c = let first = row_first c.args.code.q c.requires.valid.0.known c.args.code.u c.args.message.now _ _ _ c.requires.valid.0.n-is c.encode_row.ensures in
+    c.count_differing.ensures ∙ ap (λ l. differing l c.args.row.now) first

@@ -1,0 +1,10 @@
+-- The product by y^i alone, with the table row of 1.
+-- Assumes nothing.
+use Rattle.symbols.specs.Rule.{symbols}
+use Rattle.startarea.proofs.StartKinds.{multiple-apart, multiplies-one}
+use borrow.Author.Rules.{rules}
+use Rattle.startarea.proofs.add_multiple.Goals as goal
+
+pub returns : goal.returns
+returns c =
+    rw c.width_of-width.ensures at (c.add_product.ensures (symbols c.args.q).𝟙 (rw c.products_of.ensures (multiplies-one _ c.requires.area.known)))
