@@ -106,10 +106,9 @@ means-settled text (asks q u row) said' means means' = sym (means'.only q u row 
 means-settled text nothing (asks q u row) means means' = means.only q u row (means'.taken q u row refl)
 means-settled text nothing nothing means means' = refl
 
--- an answer that is the reading says what the text is taken as, and its count is within the row
-pub answers : (text : List ℕ) {said : Said} {count size : ℕ} → said ≡ reading text → count ≤ size
-    → (said ≡ reading text) × (Means text said × (count ≤ size))
-answers text e within = (e, (subst (Means text) (sym e) (reading-means text), within))
+-- an answer that is the reading says what the text is taken as
+pub as-read : {text : List ℕ} {said : Said} → said ≡ reading text → Means text said
+as-read {text} e = subst (Means text) (sym e) (reading-means text)
 
 -- a text that is too long says nothing
 pub reads-long : (text : List ℕ) → 4096 < length text → nothing ≡ reading text

@@ -152,6 +152,6 @@ row-whole text row from at count so_far none =
     sym (so_far ∙ ap (λ (numbers : List ℕ). take count row ++ map as_byte numbers) none ∙ append-nil (take count row))
 
 -- past the text's end there are no numbers
-pub numbers-past : (text : List ℕ) (at : ℕ) → length text ≤ at → numbers_from 0 (drop at text) ≡ []
+pub numbers-past : (value : ℕ) (text : List ℕ) (at : ℕ) → length text ≤ at → numbers_from value (drop at text) ≡ []
 unfolding numbers_from
-numbers-past text at h = ap (numbers_from 0) (drop_of_length-le text h)
+numbers-past value text at h = ap (numbers_from value) (drop_of_length-le text h)

@@ -3,29 +3,28 @@
 // too long gets a line of its own and nothing else.
 #![tactic(auto)]
 
-use libc::STDOUT_FILENO;
+use std::io;
 
 // Verifies and prints the lines.
-fn report(block: &[u8], payload: &[u8]) {
+fn report(rt: &impl Print, block: &[u8], payload: &[u8]) -> io::Result<()> {
     let mut out = [0u8; 32768];
     let end = blocktext::check_text(block, payload, &mut out);
-    io::write_all(STDOUT_FILENO, &out[..end]);
+    rt.write_all(&out[..end])
 }
 
-fn main() {
-    if os::arg_count() != 3 {
-        io::write_all(STDOUT_FILENO, b"usage: blockcheck BLOCK PAYLOAD\n");
-        return;
+fn main(rt: HostRuntime) -> io::Result<()> {
+    if files::word_count(&rt) != 3 {
+        return println!(rt; "usage: blockcheck BLOCK PAYLOAD");
     }
     let mut block = [0u8; 32777];
-    let block_end = files::load(1, &mut block);
+    let block_end = files::load(&rt, 1, &mut block);
     if block_end == 32777 {
-        return;
+        return Ok(());
     }
     let mut payload = [0u8; 20481];
-    let payload_end = files::load(2, &mut payload);
+    let payload_end = files::load(&rt, 2, &mut payload);
     if payload_end == 20481 {
-        return;
+        return Ok(());
     }
-    report(&block[..block_end], &payload[..payload_end]);
+    report(&rt, &block[..block_end], &payload[..payload_end])
 }

@@ -4,31 +4,30 @@
 #![tactic(auto)]
 
 use answers::Written;
-use libc::STDOUT_FILENO;
+use std::io;
 
 // Prints what writing answered.
-fn report(written: Written) {
+fn report(rt: &impl Print, written: Written) -> io::Result<()> {
     let mut line = [0u8; 32];
     let end = writetext::written_text(written, &mut line);
-    io::write_all(STDOUT_FILENO, &line[..end]);
+    rt.write_all(&line[..end])
 }
 
-fn main() {
-    if os::arg_count() != 3 {
-        io::write_all(STDOUT_FILENO, b"usage: blockwrite PAYLOAD BLOCK\n");
-        return;
+fn main(rt: HostRuntime) -> io::Result<()> {
+    if files::word_count(&rt) != 3 {
+        return println!(rt; "usage: blockwrite PAYLOAD BLOCK");
     }
     let mut payload = [0u8; 20481];
-    let end = files::load(1, &mut payload);
+    let end = files::load(&rt, 1, &mut payload);
     if end == 20481 {
-        return;
+        return Ok(());
     }
     let mut area = [0u8; 32776];
     let written = block::write(&payload[..end], &mut area);
     if let Written::Length(length) = written {
-        if !files::save(2, &area[..length]) {
-            return;
+        if !files::save(&rt, 2, &area[..length]) {
+            return Ok(());
         }
     }
-    report(written);
+    report(&rt, written)
 }

@@ -5,81 +5,77 @@
 #![tactic(auto)]
 
 use answers::Decoded;
-use libc::{STDIN_FILENO, STDOUT_FILENO};
+use files::read_full;
+use std::io;
 use vectors::{UNTOUCHED, read_number, read_symbols, spell_symbols, zeros_first};
 
 // The answer as a word and a number.
-fn tell(answer: Decoded) {
+fn tell(rt: &impl Print, answer: Decoded) -> io::Result<()> {
     match answer {
-        Decoded::Accepted(count) => {
-            io::write_all(STDOUT_FILENO, b" accept ");
-            io::print_decimal(STDOUT_FILENO, count as u64);
-        }
-        Decoded::Refused(why) => {
-            io::write_all(STDOUT_FILENO, b" refuse ");
-            io::print_decimal(STDOUT_FILENO, refusals::number_of(why) as u64);
-        }
+        Decoded::Accepted(count) => print!(rt; " accept {count}"),
+        Decoded::Refused(why) => print!(rt; " refuse {}", refusals::number_of(why)),
     }
 }
 
 // A space and an area, a digit for a symbol and a dot where nothing was written.
-fn show(area: &mut [u8]) {
+fn show(rt: &impl Print, area: &mut [u8]) -> io::Result<()> {
     spell_symbols(area);
-    io::write_all(STDOUT_FILENO, b" ");
-    io::write_all(STDOUT_FILENO, area);
+    rt.write_all(b" ")?;
+    rt.write_all(area)
 }
 
 // Decodes a row with the lent work area, and tells what came of it.
-fn decode_row(q: usize, u: usize, row: &[u8], work: &mut [u8]) {
+fn decode_row(rt: &impl Print, q: usize, u: usize, row: &[u8], work: &mut [u8]) -> io::Result<()> {
     let mut message = [UNTOUCHED; 64];
     let mut corrected = [UNTOUCHED; 64];
-    tell(decoder::decode(q, u, row, work, &mut message, &mut corrected));
-    show(&mut message);
-    show(&mut corrected);
-    io::write_all(STDOUT_FILENO, b" ");
-    io::print_decimal(STDOUT_FILENO, zeros_first(work) as u64);
-    io::write_all(STDOUT_FILENO, b"\n");
+    tell(
+        rt,
+        decoder::decode(q, u, row, work, &mut message, &mut corrected),
+    )?;
+    show(rt, &mut message)?;
+    show(rt, &mut corrected)?;
+    println!(rt; " {}", zeros_first(work))
 }
 
 // A line: q in one digit, u in two, and the row.
-fn decode_line(line: &mut [u8]) {
+fn decode_line(rt: &impl Print, line: &mut [u8]) -> io::Result<()> {
     if line.len() < 6 {
-        return;
+        return Ok(());
     }
     let end = line.len() - 1;
     let q = read_number(&line[0..1]);
     let u = read_number(&line[2..4]);
-    io::write_all(STDOUT_FILENO, &line[0..4]);
+    rt.write_all(&line[0..4])?;
     read_symbols(&mut line[5..end]);
     let mut work = [UNTOUCHED; 1480];
-    decode_row(q, u, &line[5..end], &mut work);
+    decode_row(rt, q, u, &line[5..end], &mut work)
 }
 
 // All lines of a text.
-fn decode_lines(text: &mut [u8]) {
+fn decode_lines(rt: &impl Print, text: &mut [u8]) -> io::Result<()> {
     let mut at = 0;
     while at < text.len() {
         let end = textlines::line_end(text, at);
-        decode_line(&mut text[at..end]);
+        decode_line(rt, &mut text[at..end])?;
         at = end;
     }
+    Ok(())
 }
 
 // The zero row with a work area of this size.
-fn try_work(size: usize) {
+fn try_work(rt: &impl Print, size: usize) -> io::Result<()> {
     let mut work = [UNTOUCHED; 1480];
     if 1480 < size {
-        return;
+        return Ok(());
     }
-    io::write_all(STDOUT_FILENO, b"work ");
-    io::print_decimal(STDOUT_FILENO, size as u64);
-    decode_row(4, 45, &[0u8; 64], &mut work[..size]);
+    print!(rt; "work {size}")?;
+    decode_row(rt, 4, 45, &[0u8; 64], &mut work[..size])
 }
 
-fn main() {
-    let mut text = io::large_buffer();
-    let got = io::read_full(STDIN_FILENO, &mut text);
-    decode_lines(&mut text[..got]);
-    try_work(1472);
-    try_work(1471);
+fn main(rt: HostRuntime) -> io::Result<()> {
+    let mut text = [0u8; 65536];
+    let got = read_full(&mut rt.stdin(), &mut text)?;
+    decode_lines(&rt, &mut text[..got])?;
+    try_work(&rt, 1472)?;
+    try_work(&rt, 1471)
 }

@@ -43,10 +43,6 @@ module _ (q u : ℕ) (message row : List ℕ) where
   unfolding verdict
   refused-is h = judged-by-reach ∙ ap (verdict (count_of q u message row)) (lt-leb (count_of q u message row) (reach q u) h)
 
--- all of a list that was copied, before what stays
-copied : (front old : List ℕ) (n : ℕ) → length front ≡ n → take (length front) front ++ drop (length front) old ≡ front ++ drop n old
-copied front old n e = ap₂ (λ l m. l ++ drop m old) (take_all (length front) front (omega arith)) e
-
 -- the votes of a row stand in the first k places of a list
 pub record Voted (q u : ℕ) (row votes : List ℕ) (k : ℕ) : Type 0 where
   pub input : Received q u row
@@ -124,18 +120,18 @@ module _ {q u : ℕ} {row votes sent : List ℕ} {k n most count : ℕ} (J : Jud
   corrected-kept old h = sym (ap (λ r. if_accepted r (row_numbers q u (voted q u row) ++ drop (point_count q) old) old) (beyond h))
 
   -- within reach the message output begins with a copy of the votes
-  pub message-written : (out old : List ℕ) → count ≤ most → out ≡ take (length (take k votes)) (take k votes) ++ drop (length (take k votes)) old
+  pub message-written : (out old : List ℕ) → count ≤ most → out ≡ take k votes ++ drop k old
       → out ≡ message_after q u row old
   unfolding message_after if_accepted
   message-written out old h e =
-      e ∙ copied (take k votes) old (dimension q u) (votes-count J.votes-of ∙ J.votes-of.k-is)
+      e ∙ ap (λ m. take k votes ++ drop m old) J.votes-of.k-is
       ∙ ap (λ l. l ++ drop (dimension q u) old) (first J.votes-of)
       ∙ sym (ap (λ r. if_accepted r (voted q u row ++ drop (dimension q u) old) old) (within h))
 
   -- the corrected one begins with a copy of the votes' row
-  pub corrected-written : (out old : List ℕ) → count ≤ most → out ≡ take (length (take n sent)) (take n sent) ++ drop (length (take n sent)) old
+  pub corrected-written : (out old : List ℕ) → count ≤ most → out ≡ take n sent ++ drop n old
       → out ≡ corrected_after q u row old
   unfolding corrected_after if_accepted
   corrected-written out old h e =
-      e ∙ copied (take n sent) old (point_count q) (sent-count ∙ J.n-is) ∙ ap (λ l. l ++ drop (point_count q) old) encoded
+      e ∙ ap (λ m. take n sent ++ drop m old) J.n-is ∙ ap (λ l. l ++ drop (point_count q) old) encoded
       ∙ sym (ap (λ r. if_accepted r (row_numbers q u (voted q u row) ++ drop (point_count q) old) old) (within h))

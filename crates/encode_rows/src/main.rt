@@ -4,71 +4,61 @@
 #![tactic(auto)]
 
 use answers::Encoded;
-use libc::STDOUT_FILENO;
+use std::io;
 
 // The answer as a word, with a number for a refusal.
-fn tell(answer: Encoded) {
+fn tell(rt: &impl Print, answer: Encoded) -> io::Result<()> {
     match answer {
-        Encoded::Done => {
-            io::write_all(STDOUT_FILENO, b" done\n");
-        }
-        Encoded::Refused(why) => {
-            io::write_all(STDOUT_FILENO, b" refuse ");
-            io::print_decimal(STDOUT_FILENO, refusals::number_of(why) as u64);
-            io::write_all(STDOUT_FILENO, b"\n");
-        }
+        Encoded::Done => println!(rt; " done"),
+        Encoded::Refused(why) => println!(rt; " refuse {}", refusals::number_of(why)),
     }
 }
 
 // Whether q = 4 and u are a code, told by encoding k zeros.
-fn try_code(u: usize, k: usize) {
+fn try_code(rt: &impl Print, u: usize, k: usize) -> io::Result<()> {
     let zeros = [0u8; 64];
     let mut row = [0u8; 64];
-    io::write_all(STDOUT_FILENO, b"u ");
-    io::print_decimal(STDOUT_FILENO, u as u64);
+    print!(rt; "u {u}")?;
     if k <= 64 {
-        tell(encoder::encode(4, u, &zeros[..k], &mut row));
+        tell(rt, encoder::encode(4, u, &zeros[..k], &mut row))?;
     }
-}
-
-// A byte as the wider number that is printed.
-fn wide(byte: u8) -> u64 {
-    byte as u64
+    Ok(())
 }
 
 // Each symbol with a space before it.
-fn print_symbols(row: &[u8]) {
-    let mut m = 0;
-    while m < row.len() {
-        io::write_all(STDOUT_FILENO, b" ");
-        io::print_decimal(STDOUT_FILENO, wide(row[m]));
-        m += 1;
+fn print_symbols(rt: &impl Print, row: &[u8]) -> io::Result<()> {
+    for symbol in row {
+        print!(rt; " {symbol}")?;
     }
+    Ok(())
 }
 
 // The row of a message of the tape code, in one line.
-fn print_row(message: &[u8]) {
+fn print_row(rt: &impl Print, message: &[u8]) -> io::Result<()> {
     let mut row = [0u8; 64];
     let answer = encoder::encode(4, 45, message, &mut row);
-    io::write_all(STDOUT_FILENO, b"row");
-    print_symbols(&row);
-    tell(answer);
+    print!(rt; "row")?;
+    print_symbols(rt, &row)?;
+    tell(rt, answer)
 }
 
-fn main() {
-    try_code(4, 2);
-    try_code(63, 58);
-    try_code(0, 0);
-    try_code(3, 0);
-    try_code(11, 0);
-    try_code(64, 0);
+fn main(rt: HostRuntime) -> io::Result<()> {
+    try_code(&rt, 4, 2)?;
+    try_code(&rt, 63, 58)?;
+    try_code(&rt, 0, 0)?;
+    try_code(&rt, 3, 0)?;
+    try_code(&rt, 11, 0)?;
+    try_code(&rt, 64, 0)?;
     print_row(
+        &rt,
         b"\x01\x0f\x0e\x0e\x0f\x0f\x00\x01\x05\x06\x0a\x02\x04\x0c\x09\x07\x0c\x02\x06\x06\x0c\x03\x0a\x0d\x08\x01\x05\x05\x0d\x0b\x01\x07\x0c\x06\x09\x0d\x0a\x0d\x0f\x01",
-    );
+    )?;
     print_row(
+        &rt,
         b"\x06\x05\x09\x02\x09\x04\x0b\x05\x01\x06\x02\x07\x09\x0f\x03\x00\x0a\x00\x06\x08\x01\x05\x07\x08\x00\x0e\x0a\x06\x0f\x04\x01\x09\x0b\x0e\x06\x02\x0b\x06\x01\x00",
-    );
+    )?;
     print_row(
+        &rt,
         b"\x0c\x09\x02\x05\x06\x09\x04\x0d\x02\x00\x07\x0b\x0f\x0e\x0e\x0c\x06\x09\x0d\x05\x0d\x08\x0a\x0f\x0a\x0f\x0d\x04\x05\x00\x0f\x0b\x08\x08\x0a\x0a\x04\x0f\x05\x07",
-    );
+    )
 }

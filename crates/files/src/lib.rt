@@ -2,64 +2,109 @@
 // in a line on standard output.
 #![tactic(auto)]
 
+ghost use Rattle.std.specs.Prelude.{◌<◌, IfOk, length, take};
+ghost use Rattle.std.specs.Io.KnownBytes.{Consumes, IsAtEnd};
 ghost use Rattle.io.specs.Counts.{IsPrefixLen};
 
-use libc::STDOUT_FILENO;
 use lines::put_word;
+use std::env::FillError;
+use std::fs::{File, OpenFile, OpenOptions};
+use std::io::{Read, Write};
+use std::random::RandomSource;
+use std::rt::{Env, Files};
+use std::{fs, io, str};
 
-// What is wrong with a file, and its name.
-fn tell(what: &[u8], name: &[u8]) {
-    io::write_all(STDOUT_FILENO, what);
-    io::write_all(STDOUT_FILENO, name);
-    io::write_all(STDOUT_FILENO, b"\n");
+// The longest name that the system takes has one byte less.
+const NAME_SIZE: usize = 4096;
+
+// How many words the program was started with, its own name among them.
+pub fn word_count(rt: &impl Env) -> usize {
+    for i in 0..usize::MAX {
+        if let Err(FillError::NotPresent) = rt.arg(i, &mut []) {
+            return i;
+        }
+    }
+    usize::MAX
 }
 
-// Whether nothing is left to read. A failed read looks like the end of a file to `io::read_full`, and not to this.
-fn is_at_end(file: i32) -> bool {
-    let mut more = [0u8; 1];
-    libc::read(file, &mut more) == 0
+// Puts an argument at the start of a buffer and answers its length, or 0 where there is none or it is longer than a name may be.
+fn argument(rt: &impl Env, i: usize, name: &mut [u8; NAME_SIZE]) -> usize
+    ensures { IsPrefixLen result name.new }
+{
+    match rt.arg(i, name) {
+        Ok(length) => length,
+        Err(_) => 0,
+    }
+}
+
+// What is wrong with a file, and its name. There is no other place to tell that this could not be told.
+fn tell(rt: &impl Print, what: &[u8], name: &[u8]) {
+    let _ = rt.write_all(what);
+    let _ = rt.write_all(name);
+    let _ = rt.write_all(b"\n");
+}
+
+// Reads until the buffer is full or the input ends, and answers how many bytes stand at its start.
+pub fn read_full<R: Read>(from: &mut R, buffer: &mut [u8]) -> io::Result<usize>
+    ensures within { IfOk result (λ n. IsPrefixLen n buffer.new) }
+    ensures bytes { IfOk result (λ n. Consumes (R.remaining from.old) (R.remaining from.new) (take n buffer.new)) }
+    ensures whole { IfOk result (λ n. n < length buffer.new → IsAtEnd (R.remaining from.new)) }
+{
+    let mut done = 0;
+    while done < buffer.len() {
+        let n = from.read(&mut buffer[done..])?;
+        if n == 0 {
+            break;
+        }
+        done += n;
+    }
+    Ok(done)
+}
+
+// Opens the file of a name for reading. A name that is no text names no file that std can open.
+fn open<R: Files>(rt: &R, name: &[u8]) -> Option<R::File> {
+    let name = str::from_utf8(name).ok()?;
+    File::open(rt, name).ok()
 }
 
 // Reads the file that an argument names and answers how many bytes it has. A buffer has one place more than the longest file,
 // so a full one is no file to go on with: what is wrong was told.
-pub fn load(argument: usize, buffer: &mut [u8]) -> usize
+pub fn load<R: Env + Files + Print>(rt: &R, i: usize, buffer: &mut [u8]) -> usize
     ensures { IsPrefixLen result buffer.new }
 {
-    let mut name = io::buffer();
-    let length = os::arg(argument, &mut name);
-    let file = os::open_read(&name[..length]);
-    if file < 0 {
-        tell(b"cannot open ", &name[..length]);
+    let mut name = [0u8; NAME_SIZE];
+    let length = argument(rt, i, &mut name);
+    let name = &name[..length];
+    let Some(mut file) = open(rt, name) else {
+        tell(rt, b"cannot open ", name);
         return buffer.len();
+    };
+    match read_full(&mut file, buffer) {
+        Ok(got) => {
+            if got == buffer.len() {
+                tell(rt, b"too long ", name);
+            }
+            got
+        }
+        Err(_) => {
+            tell(rt, b"cannot read ", name);
+            buffer.len()
+        }
     }
-    let got = io::read_full(file, buffer);
-    let ended = is_at_end(file);
-    libc::close(file);
-    if got == buffer.len() {
-        tell(b"too long ", &name[..length]);
-        return got;
-    }
-    if ended {
-        return got;
-    }
-    tell(b"cannot read ", &name[..length]);
-    buffer.len()
 }
 
 // Eight letters that two runs do not share.
-fn letters() -> [u8; 8] {
+fn letters(rt: &impl RandomSource) -> [u8; 8] {
     let mut letters = [0u8; 8];
-    libc::getentropy(&mut letters);
-    let mut i = 0;
-    while i < 8 {
-        letters[i] = b'a' + letters[i] % 16;
-        i += 1;
+    let _ = rt.fill_bytes(&mut letters);
+    for letter in letters.iter_mut() {
+        *letter = b'a' + *letter % 16;
     }
     letters
 }
 
 // A name in the same folder for a file that is not whole yet; an empty name where that would be too long.
-fn name_beside(name: &[u8], beside: &mut [u8; 4096]) -> usize
+fn name_beside(name: &[u8], letters: [u8; 8], beside: &mut [u8; NAME_SIZE]) -> usize
     ensures { IsPrefixLen result beside.new }
 {
     if 4000 < name.len() {
@@ -67,41 +112,43 @@ fn name_beside(name: &[u8], beside: &mut [u8; 4096]) -> usize
     }
     let own = put_word(beside, 0, name);
     let part = put_word(beside, own, b".part-");
-    put_word(beside, part, &letters())
+    put_word(beside, part, &letters)
 }
 
-// Writes all bytes to an open file, waits until they have reached their device, and closes it.
-fn put_all(file: i32, bytes: &[u8]) -> bool {
-    let whole = io::write_all(file, bytes);
-    let kept = libc::fsync(file);
-    let closed = libc::close(file);
-    if !whole {
-        return false;
+// Writes all bytes to a new file and waits until they have reached their device.
+fn put_all<F: Write + OpenFile + Drop>(mut file: F, bytes: &[u8]) -> io::Result<()> {
+    file.write_all(bytes)?;
+    file.sync_all()
+}
+
+// Writes the bytes beside the file of a name and renames what was written; where that fails nothing is left beside it.
+fn replace<R: Files>(rt: &R, name: &str, beside: &str, bytes: &[u8]) -> io::Result<()> {
+    let file = OpenOptions::new()
+        .write(true)
+        .create_new(true)
+        .open(rt, beside)?;
+    let replaced = put_all(file, bytes).and_then(|_| fs::rename(rt, beside, name));
+    if replaced.is_err() {
+        let _ = fs::remove_file(rt, beside);
     }
-    if kept != 0 {
-        return false;
-    }
-    closed == 0
+    replaced
 }
 
 // Makes the file that an argument names hold these bytes. They are written beside it and the file is renamed, so that no part of
 // them ever stands under its name; where that fails, what stood there stays, and what is wrong was told.
-pub fn save(argument: usize, bytes: &[u8]) -> bool {
-    let mut name = io::buffer();
-    let length = os::arg(argument, &mut name);
-    let mut beside = io::buffer();
-    let end = name_beside(&name[..length], &mut beside);
-    let file = os::create(&beside[..end]);
-    if file < 0 {
-        tell(b"cannot write ", &name[..length]);
-        return false;
-    }
-    if put_all(file, bytes) {
-        if os::rename(&beside[..end], &name[..length]) == 0 {
-            return true;
+pub fn save<R: Env + Files + Print + RandomSource>(rt: &R, i: usize, bytes: &[u8]) -> bool {
+    let mut name = [0u8; NAME_SIZE];
+    let length = argument(rt, i, &mut name);
+    let name = &name[..length];
+    let mut beside = [0u8; NAME_SIZE];
+    let end = name_beside(name, letters(rt), &mut beside);
+    if let Ok(text) = str::from_utf8(name) {
+        if let Ok(text_beside) = str::from_utf8(&beside[..end]) {
+            if replace(rt, text, text_beside, bytes).is_ok() {
+                return true;
+            }
         }
     }
-    os::unlink(&beside[..end]);
-    tell(b"cannot write ", &name[..length]);
+    tell(rt, b"cannot write ", name);
     false
 }

@@ -7,7 +7,7 @@ ghost use Rattle.verifying.specs.Verification.{verify_records};
 ghost use Rattle.record_cases.specs.Blank.{blank};
 
 use answers::Record;
-use libc::STDOUT_FILENO;
+use std::io;
 use verifying::verify;
 
 // Verifies with the records as structs in a local array.
@@ -20,23 +20,19 @@ fn recorded(block: &[u8], payload: &[u8], work: &mut [u8]) -> [Record; 4]
 }
 
 // Writes a record.
-fn show(outcome: Record) {
-    io::write_all(STDOUT_FILENO, b"state ");
-    io::print_decimal(STDOUT_FILENO, outcome.state as u64);
-    io::write_all(STDOUT_FILENO, b" count ");
-    io::print_decimal(STDOUT_FILENO, outcome.count as u64);
-    io::write_all(STDOUT_FILENO, b"\n");
+fn show(rt: &impl Print, outcome: Record) -> io::Result<()> {
+    println!(rt; "state {} count {}", outcome.state, outcome.count)
 }
 
 // Verifies and writes all four records.
-fn run(name: &[u8], block: &[u8], payload: &[u8]) {
+fn run(rt: &impl Print, name: &str, block: &[u8], payload: &[u8]) -> io::Result<()> {
     let mut work = [0u8; 1472];
-    io::write_all(STDOUT_FILENO, name);
+    println!(rt; "{name}")?;
     let records = recorded(block, payload, &mut work);
-    show(records[0]);
-    show(records[1]);
-    show(records[2]);
-    show(records[3]);
+    show(rt, records[0])?;
+    show(rt, records[1])?;
+    show(rt, records[2])?;
+    show(rt, records[3])
 }
 
 // Two rows of zeros.
@@ -50,16 +46,16 @@ fn two_rows() -> [u8; 72] {
 }
 
 // The first row with a symbol changed and the second with another message: two of four records are written.
-fn changed_and_other() {
+fn changed_and_other(rt: &impl Print) -> io::Result<()> {
     let mut block = two_rows();
     block[8] = 16;
     let mut payload = [0u8; 40];
     payload[20] = 1;
-    run(b"changed, other message\n", &block, &payload);
+    run(rt, "changed, other message", &block, &payload)
 }
 
 // The first row with ten symbols changed, one more than can be read.
-fn unreadable_and_equal() {
+fn unreadable_and_equal(rt: &impl Print) -> io::Result<()> {
     let mut block = two_rows();
     block[8] = 17;
     block[11] = 34;
@@ -67,22 +63,22 @@ fn unreadable_and_equal() {
     block[24] = 68;
     block[31] = 85;
     let payload = [0u8; 40];
-    run(b"unreadable, equal\n", &block, &payload);
+    run(rt, "unreadable, equal", &block, &payload)
 }
 
 // A block of another version, and a payload that is a byte short: no record is written.
-fn refused() {
+fn refused(rt: &impl Print) -> io::Result<()> {
     let mut block = two_rows();
     block[4] = 2;
     let payload = [0u8; 40];
-    run(b"version 2\n", &block, &payload);
+    run(rt, "version 2", &block, &payload)?;
     let short = [0u8; 39];
     block[4] = 1;
-    run(b"payload of 39\n", &block, &short);
+    run(rt, "payload of 39", &block, &short)
 }
 
 // Four rows take all four records: equal, nine symbols changed, another message, equal.
-fn four_rows() {
+fn four_rows(rt: &impl Print) -> io::Result<()> {
     let mut block = [0u8; 136];
     block[3] = 132;
     block[4] = 1;
@@ -96,15 +92,16 @@ fn four_rows() {
     let mut payload = [0u8; 80];
     payload[59] = 128;
     run(
-        b"equal, nine changed, other message, equal\n",
+        rt,
+        "equal, nine changed, other message, equal",
         &block,
         &payload,
-    );
+    )
 }
 
-fn main() {
-    changed_and_other();
-    unreadable_and_equal();
-    refused();
-    four_rows();
+fn main(rt: HostRuntime) -> io::Result<()> {
+    changed_and_other(&rt)?;
+    unreadable_and_equal(&rt)?;
+    refused(&rt)?;
+    four_rows(&rt)
 }

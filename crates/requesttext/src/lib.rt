@@ -6,7 +6,6 @@ ghost use Rattle.lines.specs.Text.{Wrote};
 ghost use Rattle.asking.specs.Request.{line, request};
 ghost use Rattle.lists.specs.Same.{same_list};
 
-use check::same;
 use lines::{put_byte, put_number, put_spaced};
 
 // The line "q u".
@@ -39,5 +38,5 @@ pub fn is_text_of(text: &[u8], q: usize, u: usize, row: &[u8]) -> bool
     let mut page = [0u8; 16392];
     let second = put_code(&mut page, 0, q, u);
     let end = put_row(&mut page, second, row);
-    same(text, &page[..end])
+    text == &page[..end]
 }

@@ -1,8 +1,8 @@
 // Prints the trace of the row that the text on standard input asks for.
 #![tactic(auto)]
 
-use libc::{STDIN_FILENO, STDOUT_FILENO};
+use std::io;
 
-fn main() {
-    trace::print_trace(STDIN_FILENO, STDOUT_FILENO);
+fn main(rt: HostRuntime) -> io::Result<()> {
+    trace::print_trace(&mut rt.stdin(), &mut rt.stdout())
 }

@@ -8,94 +8,100 @@
 ghost use Rattle.std.specs.Prelude.{◌<◌, length};
 
 use answers::Stopped;
-use libc::{STDIN_FILENO, STDOUT_FILENO};
+use files::read_full;
+use std::io;
 use vectors::{UNTOUCHED, read_number, read_symbols, spell_symbols};
 
 // Where the row starts in a case, after numbers of fixed widths.
 const ROW_START: usize = 16;
 
 // The answer as a word, with a number for a refusal.
-fn tell(answer: Stopped) {
+fn tell(rt: &impl Print, answer: Stopped) -> io::Result<()> {
     match answer {
-        Stopped::Done => {
-            io::write_all(STDOUT_FILENO, b"done ");
-        }
-        Stopped::Refused(why) => {
-            io::write_all(STDOUT_FILENO, b"refuse ");
-            io::print_decimal(STDOUT_FILENO, refusals::number_of(why) as u64);
-            io::write_all(STDOUT_FILENO, b" ");
-        }
+        Stopped::Done => print!(rt; "done "),
+        Stopped::Refused(why) => print!(rt; "refuse {} ", refusals::number_of(why)),
     }
 }
 
 // Stops after some steps, and tells what came of it.
-fn run_case(q: usize, u: usize, count: usize, row: &[u8], work: &mut [u8], output: &mut [u8]) {
-    tell(steps::stop(q, u, count, row, work, output));
+fn run_case(
+    rt: &impl Print,
+    q: usize,
+    u: usize,
+    count: usize,
+    row: &[u8],
+    work: &mut [u8],
+    output: &mut [u8],
+) -> io::Result<()> {
+    tell(rt, steps::stop(q, u, count, row, work, output))?;
     spell_symbols(output);
-    io::write_all(STDOUT_FILENO, output);
-    io::write_all(STDOUT_FILENO, b" ");
+    rt.write_all(output)?;
+    rt.write_all(b" ")?;
     spell_symbols(work);
-    io::write_all(STDOUT_FILENO, work);
-    io::write_all(STDOUT_FILENO, b"\n");
+    rt.write_all(work)?;
+    rt.write_all(b"\n")
 }
 
 // Runs a case with areas of these lengths. A case with longer areas than there are is left out.
 fn run_lent(
+    rt: &impl Print,
     q: usize,
     u: usize,
     count: usize,
     work_length: usize,
     output_length: usize,
     line: &mut [u8],
-)
+) -> io::Result<()>
     requires { 16 < length line.old }
 {
     if 1480 < work_length {
-        return;
+        return Ok(());
     }
     if 64 < output_length {
-        return;
+        return Ok(());
     }
-    io::write_all(STDOUT_FILENO, &line[0..ROW_START]);
+    rt.write_all(&line[0..ROW_START])?;
     let end = line.len() - 1;
     read_symbols(&mut line[ROW_START..end]);
     let mut work = [UNTOUCHED; 1480];
     let mut output = [UNTOUCHED; 64];
     run_case(
+        rt,
         q,
         u,
         count,
         &line[ROW_START..end],
         &mut work[..work_length],
         &mut output[..output_length],
-    );
+    )
 }
 
 // Repeats the numbers of a case and runs it.
-fn run_line(line: &mut [u8]) {
+fn run_line(rt: &impl Print, line: &mut [u8]) -> io::Result<()> {
     if line.len() <= ROW_START {
-        return;
+        return Ok(());
     }
     let q = read_number(&line[0..1]);
     let u = read_number(&line[2..4]);
     let count = read_number(&line[5..7]);
     let work_length = read_number(&line[8..12]);
     let output_length = read_number(&line[13..15]);
-    run_lent(q, u, count, work_length, output_length, line);
+    run_lent(rt, q, u, count, work_length, output_length, line)
 }
 
 // All cases of a text, one to a line.
-fn run_lines(text: &mut [u8]) {
+fn run_lines(rt: &impl Print, text: &mut [u8]) -> io::Result<()> {
     let mut at = 0;
     while at < text.len() {
         let end = textlines::line_end(text, at);
-        run_line(&mut text[at..end]);
+        run_line(rt, &mut text[at..end])?;
         at = end;
     }
+    Ok(())
 }
 
-fn main() {
-    let mut text = io::large_buffer();
-    let got = io::read_full(STDIN_FILENO, &mut text);
-    run_lines(&mut text[..got]);
+fn main(rt: HostRuntime) -> io::Result<()> {
+    let mut text = [0u8; 65536];
+    let got = read_full(&mut rt.stdin(), &mut text)?;
+    run_lines(&rt, &mut text[..got])
 }

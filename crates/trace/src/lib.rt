@@ -1,12 +1,17 @@
 // rowtrace's text read and its lines made.
 #![tactic(auto)]
 
+use files::read_full;
 use refusals::Refusal;
 use report::put_refusal;
 use request::{Reading, read_request};
+use std::io;
+use std::io::{Read, Write};
 
 mod rows;
 
+ghost use Rattle.std.specs.Prelude.{IfSome, OnOk, take};
+ghost use Rattle.std.specs.Io.KnownBytes.{Appends};
 ghost use Rattle.io.specs.Counts.{IsPrefixLen};
 ghost use Rattle.lines.specs.Text.{Wrote};
 ghost use Rattle.request.specs.Request.{Means, reading};
@@ -28,12 +33,14 @@ pub fn trace(text: &[u8], out: &mut [u8; TRACE_SIZE]) -> usize
     }
 }
 
-// Reads a text from one file and prints its trace to another. One byte more than a text may have is read, so that a longer
-// text is refused and not cut.
-pub fn print_trace(from: i32, to: i32) {
+// Reads a text and prints its trace. One byte more than a text may have is read, so that a longer text is refused and not cut.
+pub fn print_trace<R: Read, W: Write>(from: &mut R, to: &mut W) -> io::Result<()>
+    ensures { OnOk result (IfSome (R.remaining from.old) (λ text.
+        Appends (W.contents to.old) (W.contents to.new) (trace_text (take 4097 text)))) }
+{
     let mut text = [0u8; 4097];
-    let length = io::read_full(from, &mut text);
+    let length = read_full(from, &mut text)?;
     let mut out = [0u8; TRACE_SIZE];
     let printed = trace(&text[..length], &mut out);
-    io::write_all(to, &out[..printed]);
+    to.write_all(&out[..printed])
 }

@@ -2,28 +2,27 @@
 // must come out is what the reference prints for the same texts.
 #![tactic(auto)]
 
-use libc::STDOUT_FILENO;
+use std::fs::File;
+use std::rt::Files;
+use std::{env, io};
 
-// One text: the file that argument i names.
-fn print_case(i: usize) {
-    let mut name = [0u8; 64];
-    let length = os::arg(i, &mut name);
-    let file = os::open_read(&name[..length]);
-    if file < 0 {
-        os::fail(&name[..length]);
-        return;
-    }
-    io::write_all(STDOUT_FILENO, &name[..length]);
-    io::write_all(STDOUT_FILENO, b"\n");
-    trace::print_trace(file, STDOUT_FILENO);
-    libc::close(file);
+// One text: the file of a name.
+fn print_case<R: Files + Print + Eprint>(rt: &R, name: &str) -> io::Result<()> {
+    let mut file = match File::open(rt, name) {
+        Ok(file) => file,
+        Err(why) => return eprintln!(rt; "{name}: {why}"),
+    };
+    println!(rt; "{name}")?;
+    trace::print_trace(&mut file, &mut io::writer(rt))
 }
 
-fn main() {
-    let count = os::arg_count();
+fn main(rt: HostRuntime) -> io::Result<()> {
+    let names = env::args(&rt)?.collect::<Vec<String>>(rt.alloc())?;
+    let count = names.len();
     let mut i = 1;
     while i < count {
-        print_case(i);
+        print_case(&rt, names[i].as_str())?;
         i += 1;
     }
+    Ok(())
 }

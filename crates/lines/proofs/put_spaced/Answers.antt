@@ -1,33 +1,23 @@
-use mathlib.Core.Path.{◌≡◌, refl, ◌∙◌}
-use Prim.Native.Nat.{◌-◌, ◌≤◌}
-use native.Mathlib.Omega.{arith}
-use borrow.Author.Rules.{rules}
-use lib.ListN.{length, take}
-use lib.Seq.{take_all}
-use Rattle.lines.specs.Text.{spaced, Wrote}
+use Rattle.std.proofs.Common.{arith}
+use Rattle.lines.specs.Text.{spaced}
 use Rattle.lines.proofs.Writing.{wrote_nothing, wrote-spaced-more, spaced-room}
 use Rattle.lines.proofs.put_spaced.Goals as goal
 
 pub loop-done-init : goal.loop-done-init
 unfolding spaced
-loop-done-init c = let a = c.args in (omega arith, wrote_nothing a.buffer.now a.at, refl)
+loop-done-init c = record { within = omega arith; wrote = wrote_nothing c.args.buffer.now c.args.at }
 
 pub put_byte-next-requires : goal.put_byte-next-requires
-put_byte-next-requires c =
-    let room = spaced-room c.args.numbers.now c.loop-done.done c.loop-done-test.true in
-    omega (arith, c.requires, c.loop-done.invariant.1.place, c.loop-done.invariant.2, room)
+put_byte-next-requires c = omega (arith, spaced-room c.args.numbers.now c.loop-done.done c.loop-done-test.true)
 
 pub put_number-next-requires : goal.put_number-next-requires
-put_number-next-requires c =
-    let room = spaced-room c.args.numbers.now c.loop-done.done c.loop-done-test.true in
-    omega (arith, c.requires, c.loop-done.invariant.1.place, c.loop-done.invariant.2, c.put_byte-next.ensures.place, c.put_byte-next.auto.buffer, room)
+put_number-next-requires c = omega (arith, spaced-room c.args.numbers.now c.loop-done.done c.loop-done-test.true)
 
 pub loop-done-preserved : goal.loop-done-preserved
 loop-done-preserved c =
-    let h = c.loop-done-test.true in
-    let inv = c.loop-done.invariant in (
-      omega (arith, h),
-      wrote-spaced-more c.args.numbers.now c.loop-done.done c.requires h inv.1 c.put_byte-next.ensures
-          c.put_number-next.ensures,
-      c.put_number-next.auto.buffer ∙ c.put_byte-next.auto.buffer ∙ inv.2,
-    )
+    record {
+      within = omega arith;
+      wrote =
+          wrote-spaced-more c.args.numbers.now c.loop-done.done c.requires c.loop-done-test.true
+          c.loop-done.invariant.wrote c.put_byte-next.ensures c.put_number-next.ensures;
+    }

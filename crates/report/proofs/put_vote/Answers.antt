@@ -1,6 +1,5 @@
--- `report::put_vote` meets its contract.
+-- By whether there is a vote: a space and its digits, or " -".
 -- Assumes nothing.
-use borrow.Author.Rules.{rules}
 use Rattle.lines.specs.Text.{ascii}
 use Rattle.report.specs.Report.{vote_text}
 use Rattle.report.proofs.put_vote.Goals as goal
@@ -11,8 +10,7 @@ put_spaced-requires c = rw c.if-voted.true at c.requires
 
 pub returns-then-voted : goal.returns-then-voted
 unfolding vote_text ascii
-returns-then-voted c =
-    rw c.if-voted.true c.put_spaced.ensures
+returns-then-voted c = rw c.if-voted.true c.put_spaced.ensures
 
 pub put_word-requires : goal.put_word-requires
 unfolding vote_text ascii
@@ -20,5 +18,4 @@ put_word-requires c = rw c.if-voted.false at c.requires
 
 pub returns : goal.returns
 unfolding vote_text ascii
-returns c =
-    rw c.if-voted.false c.put_word.ensures
+returns c = rw c.if-voted.false c.put_word.ensures

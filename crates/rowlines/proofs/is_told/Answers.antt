@@ -1,7 +1,5 @@
--- `rowlines::is_told` meets its contract.
--- Assumes nothing.
-use borrow.Author.Tests.{eq-eqb, ne_eqb}
 use Rattle.rowlines.specs.RowLines.{tells}
+use borrow.Author.Tests.{eq-eqb, ne_eqb}
 use Rattle.rowlines.proofs.is_told.Goals as goal
 
 pub returns-then-state-ne0 : goal.returns-then-state-ne0

@@ -1,7 +1,4 @@
--- `vectors::zeros_first` meets its contract. The loop's invariant: `zeros` is within the area. Assumes nothing.
-use Prim.Native.Nat.{◌≤◌, ◌-◌}
-use lib.ListN.{length}
-use borrow.Author.Rules.{rules}
+use Rattle.std.proofs.Common.{length, ◌-◌, ◌≤◌}
 use Rattle.vectors.proofs.zeros_first.Given as goal
 
 abbrev pub invariant-loop-zeros : goal.invariant-loop-zeros

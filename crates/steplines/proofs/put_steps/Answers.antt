@@ -1,0 +1,102 @@
+use mathlib.Core.Path.{◌≡◌, refl, sym, ◌∙◌, subst}
+use mathlib.Core.List.{List}
+use Prim.Native.Nat.{ℕ, ◌+◌, ◌-◌, ◌*◌, ◌≤◌, ◌<◌}
+use native.Mathlib.Nat.{mul-le-mul_right}
+use native.Mathlib.Omega.{arith}
+use borrow.Author.Rules.{rules}
+use lib.ListN.{length}
+use Rattle.symbols.specs.Sizes.{most_polynomials}
+use Rattle.lines.specs.Text.{Wrote}
+use Rattle.lines.proofs.Writing.{wrote_nothing}
+use Rattle.published.specs.Start.{step_count}
+use Rattle.workarea.specs.Area.{Starts, cells_of}
+use Rattle.workarea.specs.Heights.{Heights}
+use Rattle.steps.specs.Stop.{state_after}
+use Rattle.workarea.proofs.Sizes.{area_of}
+use Rattle.workarea.proofs.HeightLaws.{start-many}
+use Rattle.steps.proofs.StartHeights.{below-start}
+use Rattle.steplines.specs.StepLines.{step_lines}
+use Rattle.stepline.specs.StepLine.{step_size}
+use Rattle.steplines.proofs.Lengths.{length-steps}
+use Rattle.steplines.proofs.Walked.{Reached, weight_is, next-state, reached-more}
+use Rattle.steplines.proofs.put_steps.Goals as goal
+use Rattle.steplines.proofs.put_steps.Goals.{After-heights-1, After-start_heights-heights, After-take_step-vote, At-loop-t}
+
+-- the lines of t steps fit, and one more where one more is due
+lines_fit : (c : At-loop-t) (row : List ℕ)
+    → c.args.at + length (step_lines c.args.q c.args.u row c.loop-t.t) ≤ length c.args.out.now
+lines_fit c row =
+    let a = c.args in
+    let few : c.loop-t.t ≤ step_count a.q = omega (arith, c.loop-t.invariant.0, c.step_count-count.ensures) in
+    omega (arith, length-steps a.q a.u row c.loop-t.t, mul-le-mul_right (step_size a.q) few, c.requires.known.2)
+
+line-fits : (c : At-loop-t) → c.loop-t.t < step_count c.args.q
+    → c.loop-t.next + step_size c.args.q ≤ length c.loop-t.out
+line-fits c more =
+    let a = c.args in
+    let begun = c.requires.started in
+    let reached = c.loop-t.invariant.5 begun.row begun.shows in
+    let lines = length-steps a.q a.u begun.row c.loop-t.t in
+    let room : (c.loop-t.t + 1) * step_size a.q ≤ step_count a.q * step_size a.q = mul-le-mul_right (step_size a.q) (omega arith) in
+    omega (arith, lines, room, reached.lines.place, c.loop-t.invariant.1, c.requires.known.2)
+
+-- the step that is taken is one of those that there are
+step-due : (c : After-take_step-vote)
+    → c.loop-t.t < step_count c.args.q
+step-due c =
+    omega (arith, c.loop-t-test.true, c.step_count-count.ensures)
+
+pub loop-t-init : goal.loop-t-init
+unfolding step_lines
+loop-t-init c =
+    let a = c.args in
+    let known = c.requires.known.0 in
+    let heights = c.start_heights-heights.ensures in (
+      omega arith,
+      refl,
+      refl,
+      start-many a.q c.start_heights-heights.result known heights,
+      heights.long,
+      λ row shows. record {
+        shows = shows;
+        lines = wrote_nothing a.out.now a.at;
+        below = below-start a.q known c.start_heights-heights.result heights a.u row;
+      },
+    )
+
+pub put_step_line-next-requires-clause-area : goal.put_step_line-next-requires-clause-area
+put_step_line-next-requires-clause-area c = let a = c.args in
+    let begun = c.requires.started in
+    let weight = weight_is a.q c.loop-t.t c.step_count-count.ensures in
+    let after = next-state a.q a.u begun.row c.loop-t.t _ (step-due (goal.at.put_step_line-next-requires-clause-area c).After-heights-1) weight (c.loop-t.invariant.5 begun.row begun.shows)
+    c.take_step-vote.ensures.by_index in
+    area_of c.requires.known.0 (omega (arith, c.requires.known.1, c.loop-t.invariant.2, c.take_step-vote.auto.work))
+
+pub put_step_line-next-requires-clause-s_bound : goal.put_step_line-next-requires-clause-s_bound
+put_step_line-next-requires-clause-s_bound c = let a = c.args in
+    let begun = c.requires.started in
+    let weight = weight_is a.q c.loop-t.t c.step_count-count.ensures in
+    let after = next-state a.q a.u begun.row c.loop-t.t _ (step-due (goal.at.put_step_line-next-requires-clause-s_bound c).After-heights-1) weight (c.loop-t.invariant.5 begun.row begun.shows)
+    c.take_step-vote.ensures.by_index in
+    (omega (arith, weight), line-fits (goal.at.put_step_line-next-requires-clause-s_bound c).After-start_heights-heights (step-due (goal.at.put_step_line-next-requires-clause-s_bound c).After-heights-1))
+
+pub put_step_line-next-requires-clause-shown : goal.put_step_line-next-requires-clause-shown
+put_step_line-next-requires-clause-shown c = let a = c.args in
+    let begun = c.requires.started in
+    let weight = weight_is a.q c.loop-t.t c.step_count-count.ensures in
+    let after = next-state a.q a.u begun.row c.loop-t.t _ (step-due (goal.at.put_step_line-next-requires-clause-shown c).After-heights-1) weight (c.loop-t.invariant.5 begun.row begun.shows)
+    c.take_step-vote.ensures.by_index in
+    record { state = _; shows = after.0; voted = after.1 }
+
+pub loop-t-preserved : goal.loop-t-preserved
+loop-t-preserved c =
+    let a = c.args in (
+      omega (arith, c.loop-t-test.true),
+      c.put_step_line-next.auto.out ∙ c.loop-t.invariant.1,
+      c.take_step-vote.auto.work ∙ c.loop-t.invariant.2,
+      c.take_step-vote.ensures.heights_2,
+      c.take_step-vote.auto.heights ∙ c.loop-t.invariant.4,
+      λ row shows. reached-more a.q a.u row c.loop-t.t _ (step-due (goal.at.loop-t-preserved c).After-heights-1)
+          (weight_is a.q c.loop-t.t c.step_count-count.ensures) (lines_fit (goal.at.loop-t-preserved c).After-start_heights-heights row) (c.loop-t.invariant.5 row shows)
+          c.take_step-vote.ensures.by_index c.put_step_line-next.ensures,
+    )

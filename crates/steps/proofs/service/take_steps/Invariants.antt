@@ -1,0 +1,29 @@
+-- After each turn the area holds the picture, and the votes are those, of one step more.
+-- Assumes nothing.
+use mathlib.Core.Path.{◌≡◌, refl, sym, ap, ◌∙◌}
+use mathlib.Core.List.{List, ◌++◌}
+use Prim.Native.Nat.{ℕ, ◌+◌, ◌-◌, ◌<◌, ◌≤◌}
+use native.Mathlib.Nat.{sub-zero}
+use native.Mathlib.Omega.{arith}
+use lib.ListN.{length}
+use borrow.Author.Rules.{rules}
+use Rattle.symbols.specs.Sizes.{most_polynomials}
+use Rattle.curve.proofs.CodeLaws.{code_below}
+use Rattle.published.specs.Start.{step_count}
+use Rattle.workarea.specs.Heights.{Heights}
+use Rattle.steps.specs.Step.{BelowAfter}
+use Rattle.steps.specs.Stop.{picture_after, votes_after}
+use Rattle.steps.specs.Votes.{votes_below, noted}
+use Rattle.workarea.proofs.HeightLaws.{start-many}
+use Rattle.steps.proofs.StartHeights.{below-start}
+use Rattle.steps.proofs.VotePlaces.{below_all, below-le, code-stepped, noted-next}
+use Rattle.steps.proofs.service.take_steps.Given as goal
+
+abbrev pub invariant-loop-done : goal.invariant-loop-done
+invariant-loop-done l =
+    (l.done ≤ l.steps) × (length l.work ≡ length l.initial.work) × (length l.votes ≡ length l.initial.votes) × (l.left ≡ votes_below l.q l.u (step_count l.q - l.done)) × Heights l.q l.heights × (length l.heights ≡ most_polynomials)
+    × ((row rest rest' : List ℕ) → l.initial.work ≡ picture_after l.q l.u row 0 ++ rest → l.initial.votes ≡ votes_after l.q l.u row 0 ++ rest'
+    → (l.work ≡ picture_after l.q l.u row l.done ++ rest) × (l.votes ≡ votes_after l.q l.u row l.done ++ rest') × BelowAfter l.q l.u row l.done l.heights)
+
+abbrev pub decreases-loop-done : goal.decreases-loop-done
+decreases-loop-done l = l.steps - l.done
