@@ -56,20 +56,6 @@ module _ {𝓢 : Symbols} {q : ℕ} (𝓛 : Laws 𝓢 q) (xs ys : ℕ → 𝓢.K
       of : (i : ℕ) → Locator n i
       few : total q (λ i. (of i).e) ≤ count n
 
-    -- no point yet: the powers of y
-    none : All 0
-    none = record {
-      of = λ i. record {
-        e = 0;
-        ε = monomial 𝓢 q i 0;
-        low = omega arith;
-        top = λ hi z. 𝓛.one-ne-zero (sym (monomial-one 𝓢 q i 0) ∙ z);
-        cut = λ hi. monomial-cut 𝓢 q i 0;
-        zero-at = λ hi l h. absurd (omega arith);
-      };
-      few = omega (arith, total-const q 0);
-    }
-
     -- the width has room for one power of x more
     fits : (n i e : ℕ) → i < q → e ≤ n → suc n + q ≤ W → weight q i e + q * 1 < q * W
     unfolding weight
@@ -198,13 +184,6 @@ module _ {𝓢 : Symbols} {q : ℕ} (𝓛 : Laws 𝓢 q) (xs ys : ℕ → 𝓢.K
       next (inl h) false t = record { of = λ i. more (rs.of i) (λ hi d. h i hi); few = omega (arith, rs.few, count-grows n) }
       next (inr m) false t = record { of = chosen m; few = omega (arith, grown m, rs.few, count-more n t) }
 
-    -- all points
-    after-points : (n : ℕ) → n + q ≤ W → All n
-    after-points zero h = none
-    after-points (suc n) h =
-        let rs = after-points n (omega arith) in
-        next n h rs (find 𝓛 (value n h rs) (λ i. weight q i (rs.of i).e) q) (agrees n) refl
-
   -- the locators of the first n points, at every width that fits
   pub record Locators (n : ℕ) : Type 0 where
     pub e : ℕ → ℕ
@@ -224,10 +203,36 @@ module _ {𝓢 : Symbols} {q : ℕ} (𝓛 : Laws 𝓢 q) (xs ys : ℕ → 𝓢.K
     cut = λ i. (rs.of i).cut;
     zero-at = λ i l W hi hl d h.
         let r = rs.of i in
-        let room = fits (n + suc q) n i r.e hi r.low (omega arith) in
-        value_at-width 𝓛 W (n + suc q) (weight q i r.e) (xs l) (ys l) (r.cut hi) h (omega arith) ∙ r.zero-at hi l hl d;
+        let room = fits enough n i r.e hi r.low (omega arith) in
+        value_at-width 𝓛 W enough (weight q i r.e) (xs l) (ys l) (r.cut hi) h (omega arith) ∙ r.zero-at hi l hl d;
     few = rs.few;
   }
     where
-      rs : All (n + suc q) n
-      rs = after-points (n + suc q) n (omega arith)
+      -- a width that is enough for the first n points
+      enough : ℕ
+      enough = n + suc q
+
+      -- no point yet: the powers of y
+      none : All enough 0
+      none = record {
+        of = λ i. record {
+          e = 0;
+          ε = monomial 𝓢 q i 0;
+          low = omega arith;
+          top = λ hi z. 𝓛.one-ne-zero (sym (monomial-one 𝓢 q i 0) ∙ z);
+          cut = λ hi. monomial-cut 𝓢 q i 0;
+          zero-at = λ hi l h. absurd (omega arith);
+        };
+        few = omega (arith, total-const q 0);
+      }
+
+      -- the first m points
+      after-points : (m : ℕ) → m + q ≤ enough → All enough m
+      after-points zero h = none
+      after-points (suc m) h =
+          let rs = after-points m (omega arith) in
+          next enough m h rs (find 𝓛 (value enough m h rs) (λ i. weight q i (rs.of i).e) q) (agrees m) refl
+
+      -- the first n points
+      rs : All enough n
+      rs = after-points n (omega arith)

@@ -7,7 +7,6 @@ use borrow.Author.Rules.{rules}
 use Rattle.judging.specs.Judging.{differing}
 use Rattle.judging.proofs.Differing.{differing_from, from_first, past_end, place-differs, place-agrees}
 use Rattle.judging.proofs.count_differing.Goals as goal
-use Rattle.judging.proofs.count_differing.Goals.{then-a-i, else-a-i}
 
 pub loop-i-init : goal.loop-i-init
 loop-i-init c = (omega arith, c.requires, omega arith, omega (arith, from_first c.args.a.now c.args.b.now))
@@ -16,10 +15,11 @@ pub loop-i-preserved : goal.loop-i-preserved
 loop-i-preserved c =
     let a = c.args.a.now in
     let b = c.args.b.now in
-    elim c.if-a-i.branch [
-      | then-a-i w ↦ omega (arith, place-differs c.loop-i.i a b (omega arith) (omega arith) w.if-a-i.true)
-      | else-a-i w ↦ omega (arith, place-agrees c.loop-i.i a b (omega arith) (omega arith) w.if-a-i.false)
-    ]
+    grind (
+      arith,
+      place-differs c.loop-i.i a b (omega arith) (omega arith),
+      place-agrees c.loop-i.i a b (omega arith) (omega arith),
+    )
 
 pub returns : goal.returns
 returns c =

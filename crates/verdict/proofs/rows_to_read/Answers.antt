@@ -6,7 +6,7 @@ use borrow.Author.Rules.{rules}
 use Rattle.verdict.proofs.rows_to_read.Goals as goal
 
 pub returns-in_default : goal.returns-in_default
-returns-in_default c = settled-reads-none _ _ c.in_default.not-Copied
+returns-in_default c = settled-reads-none _ _ (search rules)
 
 pub returns : goal.returns
 returns c = rw c.in-Copied.is (c.row_count.ensures.0 ∙ copied-reads-all _ _)

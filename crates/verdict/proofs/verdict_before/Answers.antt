@@ -4,6 +4,7 @@ use mathlib.Core.Path.{ap, ◌≡◌, sym, ◌∙◌}
 use mathlib.Core.Bool.{not, true}
 use Prim.Native.Nat.{ℕ, ◌*◌, ◌<◌}
 use lib.ListN.{length, get_or}
+use native.Mathlib.Omega.{arith}
 use borrow.Author.Tests.{not-true, not-false}
 use Rattle.layout.specs.Layout.{message_bytes, row_count, is_block}
 use Rattle.verdict.proofs.Start.{area-is, before-9, before-10, before-11, before-6, before-none}
@@ -45,7 +46,7 @@ returns-then-records-rows c =
 pub returns-then-work-lt-TAPE_AREA : goal.returns-then-work-lt-TAPE_AREA
 returns-then-work-lt-TAPE_AREA c =
     with-bytes (goal.at.returns-then-work-lt-TAPE_AREA c).After-shared_slice_known-2-1
-    (before-6 _ _ _ _ (is-good (goal.at.returns-then-work-lt-TAPE_AREA c).Else-not-is_block) (is-long (goal.at.returns-then-work-lt-TAPE_AREA c).Else-payload-rows) (rw c.row_count-rows.ensures.0 at c.if-records-rows.false)
+    (before-6 _ _ _ _ (is-good (goal.at.returns-then-work-lt-TAPE_AREA c).Else-not-is_block) (is-long (goal.at.returns-then-work-lt-TAPE_AREA c).Else-payload-rows) (omega (arith, c.row_count-rows.ensures.0))
     (rw area-is c.if-work-lt-TAPE_AREA.true))
 
 pub returns : goal.returns
