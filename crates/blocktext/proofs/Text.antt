@@ -4,12 +4,10 @@ use mathlib.Core.Path.{◌≡◌, refl, sym, ◌∙◌}
 use mathlib.Core.Logic.{⊎_elim}
 use mathlib.Core.Bool.{Bool, true, false}
 use mathlib.Core.List.{List, [], ◌∷◌, ◌++◌}
-use Prim.Native.Nat.{ℕ, zero, suc, ◌+◌, ◌/◌, ◌≤◌}
+use Prim.Native.Nat.{ℕ, suc, ◌+◌, ◌/◌, ◌≤◌}
 use native.Mathlib.Omega.{arith}
 use lib.Dec.{eqb}
 use lib.ListN.{length}
-use types.Run.{OneOf}
-use denote.Enum.Declared.{tag_of}
 use Rattle.lists.specs.Tables.{join_from, join}
 use Rattle.lines.specs.Text.{Wrote}
 use Rattle.lines.proofs.Writing.{wrote-more}
@@ -25,7 +23,6 @@ use Rattle.verdict.proofs.Verdicts.{by_state}
 use Rattle.verdict.proofs.Start.{fit}
 use Rattle.answers.specs.declared.Verified.{Verified}
 use Rattle.answers.specs.declared.Verified.TheVariants.{Copied, Differs, Unreadable, Refused}
-use Rattle.answers.specs.contracts.Verified.{the_type}
 use Rattle.rowlines.specs.RowLines.{line_at}
 use Rattle.blocktext.specs.Report.{record_lines, verdict_line, rows_told}
 use Rattle.rowlines.proofs.Joined.{join-same}

@@ -13,7 +13,7 @@ use Rattle.algebra.specs.Totals.{total}
 use Rattle.algebra.proofs.Powers.{two-le-q}
 use Rattle.algebra.proofs.WeightLaws.{weight-mono}
 use Rattle.algebra.proofs.NumberSums.{total-cong, total-add}
-use Rattle.algebra.proofs.Partners.{partner, partner_back, partner_back-below, total-partner}
+use Rattle.algebra.proofs.Partners.{partner_back, partner_back-below, total-partner}
 use Rattle.algebra.proofs.OnCurve.{OnCurve}
 use Rattle.lists.proofs.Tables.{get_or-tab}
 use Rattle.published.specs.Start.{Polynomials, width, f, g, coefficient}

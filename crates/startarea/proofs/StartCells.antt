@@ -2,7 +2,7 @@
 -- Assumes nothing.
 use mathlib.Core.Path.{◌≡◌, sym, ap, ◌∙◌}
 use mathlib.Core.List.{List, ◌++◌, map}
-use mathlib.Core.Logic.{◌⊎◌, inl, ⊎_elim}
+use mathlib.Core.Logic.{inl, ⊎_elim}
 use Prim.Native.Nat.{ℕ, ◌+◌, ◌*◌, ◌/◌, ◌%◌, ◌<◌}
 use native.Mathlib.Nat.{mod-lt, div-lt_iff_lt-mul, add-zero}
 use native.Mathlib.Omega.{arith}

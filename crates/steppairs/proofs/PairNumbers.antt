@@ -8,8 +8,8 @@ use Rattle.algebra.proofs.Ring.{sub_def, zero-add}
 use Rattle.symbols.specs.Rule.{Known, difference_of, symbols, Sym, number, symbol}
 use Rattle.symbols.proofs.Bytes.{number-of-negative}
 use Rattle.symbols.proofs.FieldLaws.{laws-of}
-use Rattle.published.specs.Start.{Polynomials, coefficient, width}
-use Rattle.published.specs.Pairing.{Pairing, degree, degree_of, degree_f, degree_g, lead_f, lead_g, k_of, partner_of, is_negative, is_voted, positive_part, looked, in_voted_step, in_unvoted_step, pairing}
+use Rattle.published.specs.Start.{Polynomials, width}
+use Rattle.published.specs.Pairing.{Pairing, degree_of, degree_f, degree_g, lead_f, lead_g, k_of, partner_of, is_negative, is_voted, positive_part, looked, in_voted_step, in_unvoted_step, pairing}
 use Rattle.workarea.specs.Area.{cells_of}
 use Rattle.steppairs.specs.Reading.{LeadingOf}
 use Rattle.pair.specs.Pairs.{NumbersOf}

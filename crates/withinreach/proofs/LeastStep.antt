@@ -13,7 +13,7 @@ use Rattle.algebra.proofs.Leads.{LeadLower}
 use Rattle.curve.specs.Points.{point_at}
 use Rattle.curve.specs.Codes.{point_count}
 use Rattle.curve.proofs.Arranged.{Arranged}
-use Rattle.published.specs.Start.{Polynomials, upper, lower, f, g, coefficient}
+use Rattle.published.specs.Start.{Polynomials, upper, lower, f, coefficient}
 use Rattle.published.specs.Pairing.{pairing, degree_f, degree_g}
 use Rattle.published.specs.Steps.{substituted, updated, pairings}
 use Rattle.published.specs.Meaning.{vote_on}

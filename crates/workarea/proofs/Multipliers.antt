@@ -1,7 +1,7 @@
 -- The rows of the product table multiply.
 -- Assumes nothing.
 use mathlib.Core.Path.{ap, ◌∙◌, subst}
-use Prim.Native.Nat.{ℕ, ◌-◌, ◌*◌, ◌<◌, ◌≤◌}
+use Prim.Native.Nat.{ℕ, ◌*◌, ◌<◌, ◌≤◌}
 use native.Mathlib.Nat.{mod-eq_of_lt}
 use native.Mathlib.Omega.{arith}
 use Rattle.symbols.specs.Sizes.{most_symbols}

@@ -1,15 +1,15 @@
 use mathlib.Core.Path.{◌≡◌, sym, ap, ◌∙◌}
 use mathlib.Core.Bool.{true, not}
-use Prim.Native.Nat.{◌+◌, ◌-◌, ◌*◌, ◌/◌, ◌≤◌}
+use Prim.Native.Nat.{◌/◌}
 use native.Mathlib.Omega.{arith}
 use lib.ListN.{length}
 use borrow.Author.Rules.{rules}
 use borrow.Author.Tests.{not-false, lt-ltb, le-ltb}
 use Rattle.refusals.proofs.Checks.{here, later, clear, done}
-use Rattle.layout.specs.Layout.{row_bytes, message_bytes, header_bytes}
+use Rattle.layout.specs.Layout.{message_bytes}
 use Rattle.block.specs.Writing.{rows_filled, is_payload, write_checks}
-use Rattle.block.proofs.CodeRows.{Fills, fills}
-use Rattle.block.proofs.Writes.{written, header-written, row_written, all-written, refusing, writing}
+use Rattle.block.proofs.CodeRows.{fills}
+use Rattle.block.proofs.Writes.{header-written, row_written, all-written, refusing, writing}
 use Rattle.block.proofs.write.Goals as goal
 use Rattle.block.proofs.write.Goals.{Else-not-is_payload}
 

@@ -1,7 +1,5 @@
 -- `blocktext::put_verdict` meets its contract, case by case.
 -- Assumes nothing.
-use native.Mathlib.Omega.{arith}
-use borrow.Author.Rules.{rules}
 use Rattle.lines.specs.Text.{ascii}
 use Rattle.blocktext.specs.Report.{verdict_line}
 use Rattle.blocktext.proofs.put_verdict.Goals as goal

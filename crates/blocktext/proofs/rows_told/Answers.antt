@@ -1,6 +1,5 @@
 -- `blocktext::rows_told` meets its contract.
 -- Assumes nothing.
-use borrow.Author.Rules.{rules}
 use Rattle.blocktext.proofs.Text.{told-others, told_none}
 use Rattle.blocktext.proofs.rows_told.Goals as goal
 

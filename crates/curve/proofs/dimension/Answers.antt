@@ -1,10 +1,9 @@
 use mathlib.Core.Bool.{not}
 use mathlib.Core.Path.{ap, ◌≡◌, sym, ◌∙◌}
-use Prim.Native.Nat.{◌+◌, ◌-◌, ◌≤◌}
+use Prim.Native.Nat.{◌+◌}
 use native.Mathlib.Omega.{arith}
 use borrow.Author.Rules.{rules}
 use Rattle.algebra.specs.Weights.{nongap}
-use Rattle.curve.specs.Ranks.{rank}
 use Rattle.curve.proofs.Sizes.{count_small}
 use Rattle.curve.proofs.Ranks.{rank-zero, rank-nongap, rank-gap, rank-le, dimension-rank}
 use Rattle.curve.proofs.dimension.Goals as goal
@@ -28,9 +27,9 @@ loop-s-preserved c =
     let at = c.loop-s in (
       search rules,
       elim c.if-not-is_gap.branch [
-            then-not-is_gap w ↦ w.count-is ∙ (rw at.invariant.1 (sym (rank-nongap q at.s (rw c.is_gap.ensures at (ap not w.if-not-is_gap.true)))))
-          | else-not-is_gap w ↦ w.count-is ∙ (rw at.invariant.1 (sym (rank-gap q at.s (rw c.is_gap.ensures at (ap not w.if-not-is_gap.false)))))
-          ],
+        | then-not-is_gap w ↦ w.count-is ∙ (rw at.invariant.1 (sym (rank-nongap q at.s (rw c.is_gap.ensures at (ap not w.if-not-is_gap.true)))))
+        | else-not-is_gap w ↦ w.count-is ∙ (rw at.invariant.1 (sym (rank-gap q at.s (rw c.is_gap.ensures at (ap not w.if-not-is_gap.false)))))
+      ],
     )
 
 pub returns : goal.returns

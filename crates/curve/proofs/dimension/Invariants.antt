@@ -1,13 +1,7 @@
 -- `curve::dimension` meets its contract. The loop's invariant: so many non-gaps were passed. Assumes nothing.
-use mathlib.Core.Path.{◌≡◌, sym, ◌∙◌}
-use mathlib.Core.Logic.{⊎_elim}
+use mathlib.Core.Path.{◌≡◌}
 use Prim.Native.Nat.{◌+◌, ◌-◌, ◌≤◌}
-use native.Mathlib.Omega.{arith}
-use borrow.Author.Rules.{rules}
-use Rattle.algebra.specs.Weights.{nongap}
 use Rattle.curve.specs.Ranks.{rank}
-use Rattle.curve.proofs.Sizes.{count_small}
-use Rattle.curve.proofs.Ranks.{rank-zero, rank-nongap, rank-gap, rank-le, dimension-rank}
 use Rattle.curve.proofs.dimension.Given as goal
 
 abbrev pub invariant-loop-s : goal.invariant-loop-s

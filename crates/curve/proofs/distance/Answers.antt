@@ -4,7 +4,6 @@ use Prim.Native.Nat.{◌+◌, ◌*◌, ◌-◌, ◌/◌, ◌%◌, ◌≤◌, ◌
 use native.Mathlib.Nat.{mul-le-mul_left, mod-lt, div-mul-le_self}
 use native.Mathlib.Omega.{arith}
 use Rattle.symbols.proofs.Bytes.{known-positive, known-high, square-small}
-use Rattle.curve.proofs.Sizes.{count_small}
 use Rattle.curve.proofs.Distances.{distance-far, distance-near}
 use Rattle.curve.proofs.distance.Goals as goal
 use Rattle.curve.proofs.distance.Goals.{After-remainder-b, Then-b-q}

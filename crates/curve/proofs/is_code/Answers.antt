@@ -1,5 +1,4 @@
 -- `curve::is_code` meets its contract. Assumes nothing.
-use borrow.Author.Rules.{rules}
 use borrow.Author.Tests.{lt-leb, le-leb, le-ltb, lt-ltb}
 use Rattle.algebra.specs.Weights.{nongap}
 use Rattle.curve.specs.Codes.{is_code}

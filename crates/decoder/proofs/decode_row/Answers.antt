@@ -5,7 +5,6 @@ use mathlib.Core.Path.{sym, ap, ◌∙◌}
 use mathlib.Core.List.{List, ◌++◌}
 use Prim.Native.Nat.{ℕ, ◌≤◌}
 use native.Mathlib.Omega.{arith}
-use borrow.Author.Rules.{rules}
 use lib.ListN.{drop, replicate}
 use lib.Seq.{length-take-le}
 use Rattle.symbols.specs.Sizes.{most_points}

@@ -5,7 +5,6 @@ use mathlib.Core.Bool.{not}
 use mathlib.Core.Path.{ap, ◌≡◌, sym, ◌∙◌}
 use native.Mathlib.Omega.{arith}
 use lib.ListN.{length}
-use borrow.Author.Rules.{rules}
 use borrow.Author.Tests.{not-true, not-false}
 use Rattle.curve.specs.Codes.{point_count}
 use Rattle.curve.specs.Given.{Received}

@@ -1,6 +1,5 @@
 -- `encoder::encode` meets its contract: what q and u name decides. Assumes nothing.
 use mathlib.Core.Path.{sym, ap, ◌∙◌}
-use borrow.Author.Rules.{rules}
 use Rattle.curve.specs.declared.Code.{Code}
 use Rattle.curve.proofs.Naming.{named-refused, named-code, IsNamed, named-valid}
 use Rattle.encoder.specs.Encoding.{encode_answer, encode_output}

@@ -1,15 +1,14 @@
 use mathlib.Core.Path.{◌≡◌, refl, sym, ◌∙◌}
-use Prim.Native.Nat.{◌+◌, ◌-◌, ◌*◌, ◌/◌, ◌<◌, ◌≤◌}
+use Prim.Native.Nat.{◌+◌, ◌*◌, ◌/◌, ◌<◌}
 use native.Mathlib.Nat.{div-le_self, zero-mul}
 use native.Mathlib.Omega.{arith}
 use lib.ListN.{length}
 use borrow.Author.Rules.{rules}
-use Rattle.lists.specs.Tables.{put}
 use Rattle.lists.proofs.Put.{put-none}
 use Rattle.symbols.proofs.Bytes.{known-positive, square-small}
 use Rattle.curve.proofs.Sizes.{count_small}
 use Rattle.curve.proofs.CodeLaws.{code_below}
-use Rattle.encoder.proofs.RowNumbers.{row_number, function, spread-function}
+use Rattle.encoder.proofs.RowNumbers.{function, spread-function}
 use Rattle.encoder.proofs.Written.{width_small, column-holds, next-column, all-columns}
 use Rattle.encoder.proofs.encode_row.Goals as goal
 use Rattle.encoder.proofs.encode_row.Goals.{At-loop-x}
@@ -46,18 +45,17 @@ pub overflow_cast-x : goal.overflow_cast-x
 overflow_cast-x c = omega (arith, square-small _ c.requires.0.known)
 
 pub column-values-requires : goal.column-values-requires
-column-values-requires c =
-    (
-      c.requires.0.known,
-      omega arith,
-      omega (
-        arith,
-        width_small c.args.code.q c.args.code.u c.requires.0.known
-            (code_below _ _ c.requires.0.accepted),
-      ),
-      search rules,
-      c.table_of-table.ensures,
-    )
+column-values-requires c = (
+  c.requires.0.known,
+  omega arith,
+  omega (
+    arith,
+    width_small c.args.code.q c.args.code.u c.requires.0.known
+        (code_below _ _ c.requires.0.accepted),
+  ),
+  search rules,
+  c.table_of-table.ensures,
+)
 
 pub overflow_add-x : goal.overflow_add-x
 overflow_add-x c = omega (arith, square-small _ c.requires.0.known)

@@ -1,17 +1,9 @@
 -- `encoder::encode_row` meets its contract. The loop's invariant: the columns passed are written. Assumes nothing.
-use mathlib.Core.Path.{◌≡◌, refl, sym, ◌∙◌}
-use Prim.Native.Nat.{◌+◌, ◌-◌, ◌*◌, ◌/◌, ◌<◌, ◌≤◌}
-use native.Mathlib.Nat.{div-le_self, zero-mul}
-use native.Mathlib.Omega.{arith}
+use mathlib.Core.Path.{◌≡◌}
+use Prim.Native.Nat.{◌-◌, ◌*◌, ◌≤◌}
 use lib.ListN.{length}
-use borrow.Author.Rules.{rules}
 use Rattle.lists.specs.Tables.{put}
-use Rattle.lists.proofs.Put.{put-none}
-use Rattle.symbols.proofs.Bytes.{known-positive, square-small}
-use Rattle.curve.proofs.Sizes.{count_small}
-use Rattle.curve.proofs.CodeLaws.{code_below}
-use Rattle.encoder.proofs.RowNumbers.{row_number, function, spread-function}
-use Rattle.encoder.proofs.Written.{width_small, column-holds, next-column, all-columns}
+use Rattle.encoder.proofs.RowNumbers.{row_number}
 use Rattle.encoder.proofs.encode_row.Given as goal
 
 abbrev pub invariant-loop-x : goal.invariant-loop-x

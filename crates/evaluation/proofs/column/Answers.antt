@@ -1,15 +1,12 @@
 use mathlib.Core.Path.{◌≡◌, sym, ap, ◌∙◌}
-use Prim.Native.Nat.{◌+◌, ◌-◌, ◌*◌, ◌≤◌}
+use Prim.Native.Nat.{◌+◌, ◌-◌, ◌*◌}
 use native.Mathlib.Omega.{arith}
-use lib.ListN.{replicate, length-take, length-drop}
+use lib.ListN.{replicate}
 use borrow.Author.Rules.{rules}
-use Rattle.algebra.specs.Functions.{Fn}
-use Rattle.lists.specs.Tables.{put}
 use Rattle.lists.proofs.Put.{put-none, put_next}
 use Rattle.symbols.specs.Sizes.{most_q, most_symbols}
-use Rattle.symbols.specs.Rule.{symbols}
 use Rattle.symbols.proofs.Bytes.{known-high}
-use Rattle.evaluation.specs.Stages.{HoldsFunction, column_number}
+use Rattle.evaluation.specs.Stages.{column_number}
 use Rattle.evaluation.proofs.Values.{column-value}
 use Rattle.evaluation.proofs.column.Goals as goal
 

@@ -1,17 +1,12 @@
 -- `evaluation::column` meets its contract. The loop's invariant: the values for the powers of y passed. Assumes nothing.
-use mathlib.Core.Path.{◌≡◌, sym, ap, ◌∙◌}
-use Prim.Native.Nat.{◌+◌, ◌-◌, ◌*◌, ◌≤◌}
-use native.Mathlib.Omega.{arith}
-use lib.ListN.{replicate, length-take, length-drop}
-use borrow.Author.Rules.{rules}
+use mathlib.Core.Path.{◌≡◌}
+use Prim.Native.Nat.{◌-◌, ◌≤◌}
+use lib.ListN.{replicate}
 use Rattle.algebra.specs.Functions.{Fn}
 use Rattle.lists.specs.Tables.{put}
-use Rattle.lists.proofs.Put.{put-none, put_next}
-use Rattle.symbols.specs.Sizes.{most_q, most_symbols}
+use Rattle.symbols.specs.Sizes.{most_q}
 use Rattle.symbols.specs.Rule.{symbols}
-use Rattle.symbols.proofs.Bytes.{known-high}
 use Rattle.evaluation.specs.Stages.{HoldsFunction, column_number}
-use Rattle.evaluation.proofs.Values.{column-value}
 use Rattle.evaluation.proofs.column.Given as goal
 
 abbrev pub invariant-loop-j : goal.invariant-loop-j

@@ -1,16 +1,13 @@
-use mathlib.Core.Path.{◌≡◌, refl, sym, ap, ◌∙◌}
-use Prim.Native.Nat.{ℕ, ◌-◌, ◌*◌, ◌≤◌}
+use mathlib.Core.Path.{refl, sym, ap, ◌∙◌}
+use Prim.Native.Nat.{◌*◌}
 use native.Mathlib.Omega.{arith}
-use lib.ListN.{length, get_or, length-take, length-set}
+use lib.ListN.{get_or, length-take, length-set}
 use borrow.Author.Rules.{rules}
-use Rattle.lists.specs.Tables.{put}
 use Rattle.lists.proofs.Put.{put-none, put-more}
-use Rattle.symbols.specs.Rule.{Sym}
 use Rattle.symbols.specs.Tables.{product_row}
-use Rattle.symbols.proofs.Bytes.{known-positive, known-high, square-small}
+use Rattle.symbols.proofs.Bytes.{known-high, square-small}
 use Rattle.curve.proofs.Sizes.{count_small}
 use Rattle.evaluation.specs.Stages.{fibre_number}
-use Rattle.symbols.specs.Tables.{Holds}
 use Rattle.evaluation.proofs.Values.{fibre-within, fibre-value}
 use Rattle.evaluation.proofs.fill_fibre.Goals as goal
 

@@ -1,18 +1,11 @@
 -- `evaluation::fill_fibre` meets its contract. The loop's invariant: the values at the points passed. Assumes nothing.
-use mathlib.Core.Path.{◌≡◌, refl, sym, ap, ◌∙◌}
+use mathlib.Core.Path.{◌≡◌}
 use Prim.Native.Nat.{ℕ, ◌-◌, ◌*◌, ◌≤◌}
-use native.Mathlib.Omega.{arith}
-use lib.ListN.{length, get_or, length-take, length-set}
-use borrow.Author.Rules.{rules}
+use lib.ListN.{length}
 use Rattle.lists.specs.Tables.{put}
-use Rattle.lists.proofs.Put.{put-none, put-more}
 use Rattle.symbols.specs.Rule.{Sym}
-use Rattle.symbols.specs.Tables.{product_row}
-use Rattle.symbols.proofs.Bytes.{known-positive, known-high, square-small}
-use Rattle.curve.proofs.Sizes.{count_small}
 use Rattle.evaluation.specs.Stages.{fibre_number}
 use Rattle.symbols.specs.Tables.{Holds}
-use Rattle.evaluation.proofs.Values.{fibre-within, fibre-value}
 use Rattle.evaluation.proofs.fill_fibre.Given as goal
 
 abbrev pub invariant-loop-b : goal.invariant-loop-b

@@ -1,19 +1,11 @@
 -- `evaluation::spread` meets its contract. The loop's invariant: the bytes for the weights passed stand in their places.
 -- Assumes nothing.
-use mathlib.Core.Path.{◌≡◌, refl, sym, ap, ◌∙◌, subst}
-use mathlib.Core.Bool.{not}
-use Prim.Native.Nat.{◌+◌, ◌-◌, ◌*◌, ◌≤◌, ◌<◌}
-use native.Mathlib.Omega.{arith}
-use lib.ListN.{length, length-set}
-use borrow.Author.Rules.{rules}
-use Rattle.symbols.specs.Sizes.{most_symbols, most_points}
-use Rattle.algebra.specs.Weights.{nongap}
+use mathlib.Core.Path.{◌≡◌}
+use Prim.Native.Nat.{◌+◌, ◌-◌, ◌≤◌}
+use lib.ListN.{length}
+use Rattle.symbols.specs.Sizes.{most_points}
 use Rattle.curve.specs.Ranks.{rank}
-use Rattle.curve.proofs.Sizes.{count_small}
-use Rattle.curve.proofs.Ranks.{rank-zero, rank-le, rank-nongap, rank-gap, rank_below}
-use Rattle.curve.proofs.MonomialAnswers.{Found, found, missed}
 use Rattle.evaluation.specs.Stages.{IsSpread}
-use Rattle.evaluation.proofs.Spreading.{spread_none, spread-gap, spread-next, powers-fit}
 use Rattle.evaluation.proofs.spread.Given as goal
 
 abbrev pub invariant-loop-s : goal.invariant-loop-s

@@ -1,7 +1,5 @@
 use mathlib.Core.Path.{◌≡◌, subst}
-use Prim.Native.Nat.{◌<◌}
 use native.Mathlib.Omega.{arith}
-use lib.ListN.{length}
 use borrow.Author.Rules.{rules}
 use Rattle.evaluation.proofs.Horner.{IsPart, horner-last, horner-next, horner-all}
 use Rattle.evaluation.proofs.value_in.Goals as goal

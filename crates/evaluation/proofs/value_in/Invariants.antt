@@ -1,10 +1,7 @@
 -- `evaluation::value_in` meets its contract. The loop's invariant: the value of the coefficients passed. Assumes nothing.
-use mathlib.Core.Path.{◌≡◌, subst}
 use Prim.Native.Nat.{◌<◌}
-use native.Mathlib.Omega.{arith}
 use lib.ListN.{length}
-use borrow.Author.Rules.{rules}
-use Rattle.evaluation.proofs.Horner.{IsPart, horner-last, horner-next, horner-all}
+use Rattle.evaluation.proofs.Horner.{IsPart}
 use Rattle.evaluation.proofs.value_in.Given as goal
 
 abbrev pub invariant-loop-i : goal.invariant-loop-i

@@ -3,7 +3,6 @@
 use native.Mathlib.Omega.{arith}
 use Rattle.workarea.specs.Heights.{heights_added}
 use Rattle.workarea.proofs.Sizes.{sizes}
-use borrow.Author.Rules.{rules}
 use Rattle.heights.proofs.add_heights.Goals as goal
 
 pub overflow_add-heights : goal.overflow_add-heights

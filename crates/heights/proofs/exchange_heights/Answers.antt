@@ -1,10 +1,8 @@
 -- The sum of the definition in the place of f, and what stood there in that of g.
 -- Assumes nothing.
 use native.Mathlib.Omega.{arith}
-use lib.ListN.{length-set}
 use Rattle.workarea.specs.Heights.{heights_exchanged}
 use Rattle.workarea.proofs.Sizes.{sizes}
-use borrow.Author.Rules.{rules}
 use Rattle.heights.proofs.exchange_heights.Goals as goal
 
 pub overflow_add-old : goal.overflow_add-old

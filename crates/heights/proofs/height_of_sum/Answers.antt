@@ -2,7 +2,6 @@
 -- Assumes nothing.
 use mathlib.Core.Path.{◌∙◌}
 use Rattle.workarea.specs.Heights.{height_of_sum}
-use borrow.Author.Rules.{rules}
 use Rattle.heights.proofs.height_of_sum.Goals as goal
 
 pub returns : goal.returns

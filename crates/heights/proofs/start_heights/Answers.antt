@@ -1,11 +1,8 @@
-use mathlib.Core.Path.{◌≡◌, refl}
-use Prim.Native.Nat.{ℕ, ◌-◌, ◌*◌, ◌<◌, ◌≤◌}
+use mathlib.Core.Path.{refl}
+use Prim.Native.Nat.{◌<◌}
 use native.Mathlib.Omega.{arith}
-use lib.ListN.{length, get_or, length-set}
-use borrow.Author.Rules.{rules}
-use Rattle.symbols.specs.Sizes.{most_polynomials}
+use lib.ListN.{length, length-set}
 use Rattle.lists.proofs.Put.{set_holds}
-use Rattle.lists.proofs.Tables.{replicate-at}
 use Rattle.workarea.proofs.Sizes.{sizes}
 use Rattle.heights.proofs.start_heights.Invariants.{Placed}
 use Rattle.heights.proofs.start_heights.Goals as goal

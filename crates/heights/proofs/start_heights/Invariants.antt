@@ -1,14 +1,9 @@
 -- Each turn puts a 1 for one f more.
 -- Assumes nothing.
-use mathlib.Core.Path.{◌≡◌, refl}
+use mathlib.Core.Path.{◌≡◌}
 use Prim.Native.Nat.{ℕ, ◌-◌, ◌*◌, ◌<◌, ◌≤◌}
-use native.Mathlib.Omega.{arith}
-use lib.ListN.{length, get_or, length-set}
-use borrow.Author.Rules.{rules}
+use lib.ListN.{length, get_or}
 use Rattle.symbols.specs.Sizes.{most_polynomials}
-use Rattle.lists.proofs.Put.{set_holds}
-use Rattle.lists.proofs.Tables.{replicate-at}
-use Rattle.workarea.proofs.Sizes.{sizes}
 use Rattle.heights.proofs.start_heights.Given as goal
 
 -- what stands at place n

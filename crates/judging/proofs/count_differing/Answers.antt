@@ -1,11 +1,5 @@
-use mathlib.Core.Path.{◌≡◌}
-use mathlib.Core.Logic.{⊎_elim}
-use Prim.Native.Nat.{◌+◌, ◌≤◌, ◌-◌}
 use native.Mathlib.Omega.{arith}
-use lib.ListN.{length}
-use borrow.Author.Rules.{rules}
-use Rattle.judging.specs.Judging.{differing}
-use Rattle.judging.proofs.Differing.{differing_from, from_first, past_end, place-differs, place-agrees}
+use Rattle.judging.proofs.Differing.{from_first, past_end, place-differs, place-agrees}
 use Rattle.judging.proofs.count_differing.Goals as goal
 
 pub loop-i-init : goal.loop-i-init

@@ -2,13 +2,10 @@
 -- are together what differs.
 -- Assumes nothing.
 use mathlib.Core.Path.{◌≡◌}
-use mathlib.Core.Logic.{⊎_elim}
 use Prim.Native.Nat.{◌+◌, ◌≤◌, ◌-◌}
-use native.Mathlib.Omega.{arith}
 use lib.ListN.{length}
-use borrow.Author.Rules.{rules}
 use Rattle.judging.specs.Judging.{differing}
-use Rattle.judging.proofs.Differing.{differing_from, from_first, past_end, place-differs, place-agrees}
+use Rattle.judging.proofs.Differing.{differing_from}
 use Rattle.judging.proofs.count_differing.Given as goal
 
 abbrev pub invariant-loop-i : goal.invariant-loop-i

@@ -1,9 +1,7 @@
 -- `judging::judge` meets its contract. Assumes nothing.
-use mathlib.Core.Path.{sym, ap, ◌∙◌}
-use borrow.Author.Rules.{rules}
-use lib.ListN.{length}
+use mathlib.Core.Path.{ap, ◌∙◌}
 use Rattle.judging.specs.Judging.{differing, count_of}
-use Rattle.encoder.proofs.RowSymbols.{length-row_numbers, row_first}
+use Rattle.encoder.proofs.RowSymbols.{row_first}
 use Rattle.judging.proofs.judge.Goals as goal
 
 pub returns-clause-value : goal.returns-clause-value

@@ -2,7 +2,6 @@
 use mathlib.Core.Path.{refl, ◌∙◌}
 use native.Mathlib.Omega.{arith}
 use lib.ListN.{replicate}
-use borrow.Author.Rules.{rules}
 use Rattle.laying.proofs.Encoded.{encodable, filled-length, filled-symbols, packed-filled}
 use Rattle.laying.proofs.encode_packed.Goals as goal
 

@@ -3,7 +3,6 @@
 use mathlib.Core.Path.{◌≡◌, ◌∙◌}
 use Prim.Native.Nat.{◌+◌, ◌-◌, ◌*◌}
 use native.Mathlib.Omega.{arith}
-use borrow.Author.Rules.{rules}
 use Rattle.lists.proofs.Pasted.{part-pasted}
 use Rattle.packing.proofs.Packed.{length-packed}
 use Rattle.laying.specs.Laying.{code_row}

@@ -1,12 +1,10 @@
-use mathlib.Core.Path.{◌≡◌, sym, ap, ◌∙◌}
-use Prim.Native.Nat.{ℕ, ◌+◌, ◌-◌, ◌≤◌}
+use mathlib.Core.Path.{sym, ap, ◌∙◌}
 use native.Mathlib.Numerals.{add-one}
 use native.Mathlib.Omega.{arith}
 use borrow.Author.Rules.{rules}
 use Rattle.algebra.specs.Symbols.{power}
 use Rattle.algebra.proofs.Powers.{power_zero, power-suc}
 use Rattle.symbols.specs.Rule.{symbols, number, symbol}
-use Rattle.symbols.specs.Tables.{product_row}
 use Rattle.symbols.proofs.FieldLaws.{laws-of}
 use Rattle.symbols.proofs.Bytes.{known-high}
 use Rattle.symbols.proofs.TableRules.{table_row-number}

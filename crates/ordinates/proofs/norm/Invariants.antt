@@ -1,16 +1,9 @@
 -- `curve::norm` meets its contract. The loop's invariant: the power reached. Assumes nothing.
-use mathlib.Core.Path.{◌≡◌, sym, ap, ◌∙◌}
+use mathlib.Core.Path.{◌≡◌}
 use Prim.Native.Nat.{ℕ, ◌+◌, ◌-◌, ◌≤◌}
-use native.Mathlib.Numerals.{add-one}
-use native.Mathlib.Omega.{arith}
-use borrow.Author.Rules.{rules}
 use Rattle.algebra.specs.Symbols.{power}
-use Rattle.algebra.proofs.Powers.{power_zero, power-suc}
 use Rattle.symbols.specs.Rule.{symbols, number, symbol}
 use Rattle.symbols.specs.Tables.{product_row}
-use Rattle.symbols.proofs.FieldLaws.{laws-of}
-use Rattle.symbols.proofs.Bytes.{known-high}
-use Rattle.symbols.proofs.TableRules.{table_row-number}
 use Rattle.ordinates.proofs.norm.Given as goal
 
 abbrev pub invariant-loop-i : goal.invariant-loop-i

@@ -1,6 +1,5 @@
 -- `curve::ordinates` meets its contract. Assumes nothing.
 use native.Mathlib.Omega.{arith}
-use borrow.Author.Rules.{rules}
 use borrow.Author.Tests.{eq-eqb, ne_eqb}
 use Rattle.ordinates.specs.Ordinates.{sets4, sets2, ordinate_set, ordinates_above}
 use Rattle.ordinates.proofs.OrdinateSets.{place-small}

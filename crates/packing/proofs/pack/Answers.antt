@@ -1,8 +1,7 @@
 use mathlib.Core.Path.{◌≡◌, refl, ap, ◌∙◌}
-use mathlib.Core.List.{◌++◌}
-use Prim.Native.Nat.{◌+◌, ◌-◌, ◌*◌, ◌≤◌, ◌<◌}
+use Prim.Native.Nat.{◌+◌, ◌*◌, ◌<◌}
 use native.Mathlib.Omega.{arith}
-use lib.ListN.{length, get_or, drop, length-set}
+use lib.ListN.{length, get_or, length-set}
 use borrow.Author.Rules.{rules}
 use Rattle.lists.specs.Tables.{from, tab}
 use Rattle.lists.proofs.Filled.{fill-next, fill-all}

@@ -1,14 +1,10 @@
 -- `packing::pack` meets its contract: after i bytes the first i are those of the symbols. Assumes nothing.
-use mathlib.Core.Path.{◌≡◌, refl, ap, ◌∙◌}
+use mathlib.Core.Path.{◌≡◌}
 use mathlib.Core.List.{◌++◌}
-use Prim.Native.Nat.{◌+◌, ◌-◌, ◌*◌, ◌≤◌, ◌<◌}
-use native.Mathlib.Omega.{arith}
-use lib.ListN.{length, get_or, drop, length-set}
-use borrow.Author.Rules.{rules}
-use Rattle.lists.specs.Tables.{from, tab}
-use Rattle.lists.proofs.Filled.{fill-next, fill-all}
-use Rattle.symbols.proofs.SymbolLists.{below_all}
-use Rattle.packing.specs.Packing.{packed_byte, packed, packed_q}
+use Prim.Native.Nat.{◌-◌, ◌≤◌}
+use lib.ListN.{length, drop}
+use Rattle.lists.specs.Tables.{tab}
+use Rattle.packing.specs.Packing.{packed_byte}
 use Rattle.packing.proofs.pack.Given as goal
 
 abbrev pub invariant-loop-i : goal.invariant-loop-i

@@ -1,12 +1,9 @@
 use mathlib.Core.Path.{◌≡◌, refl}
-use mathlib.Core.List.{◌++◌}
-use Prim.Native.Nat.{ℕ, ◌-◌, ◌*◌, ◌<◌, ◌≤◌}
 use native.Mathlib.Omega.{arith}
-use lib.ListN.{length, get_or, drop, length-set}
+use lib.ListN.{length, length-set}
 use borrow.Author.Rules.{rules}
 use borrow.Author.Count.{below_none, below_more}
 use Rattle.lists.specs.Tables.{from, tab}
-use Rattle.packing.specs.Packing.{symbol_in}
 use Rattle.packing.proofs.Unpacked.{unpack-next, unpack-all, none-beyond}
 use Rattle.packing.proofs.unpack.Goals as goal
 
@@ -15,13 +12,12 @@ unfolding tab from
 loop-i-init c = (search rules, refl, refl, below_none _)
 
 pub loop-i-preserved : goal.loop-i-preserved
-loop-i-preserved c =
-    (
-      search rules,
-      unpack-next _ _ _ c.loop-i.i (omega arith) c.loop-i.invariant.1,
-      simp length-set c.loop-i.invariant.2,
-      below_more _ _ c.loop-i.invariant.3 (c.shared_slice_known-1.given c.loop-i.i).fits,
-    )
+loop-i-preserved c = (
+  search rules,
+  unpack-next _ _ _ c.loop-i.i (omega arith) c.loop-i.invariant.1,
+  simp length-set c.loop-i.invariant.2,
+  below_more _ _ c.loop-i.invariant.3 (c.shared_slice_known-1.given c.loop-i.i).fits,
+)
 
 pub returns : goal.returns
 returns c =

@@ -1,15 +1,11 @@
 -- `packing::unpack` meets its contract: after i bytes the first 2i places are their symbols.
 -- Assumes nothing.
-use mathlib.Core.Path.{◌≡◌, refl}
+use mathlib.Core.Path.{◌≡◌}
 use mathlib.Core.List.{◌++◌}
 use Prim.Native.Nat.{ℕ, ◌-◌, ◌*◌, ◌<◌, ◌≤◌}
-use native.Mathlib.Omega.{arith}
-use lib.ListN.{length, get_or, drop, length-set}
-use borrow.Author.Rules.{rules}
-use borrow.Author.Count.{below_none, below_more}
-use Rattle.lists.specs.Tables.{from, tab}
+use lib.ListN.{length, get_or, drop}
+use Rattle.lists.specs.Tables.{tab}
 use Rattle.packing.specs.Packing.{symbol_in}
-use Rattle.packing.proofs.Unpacked.{unpack-next, unpack-all, none-beyond}
 use Rattle.packing.proofs.unpack.Given as goal
 
 abbrev pub invariant-loop-i : goal.invariant-loop-i

@@ -1,10 +1,8 @@
 -- `decoder::first_row` meets its contract. Assumes nothing.
 use mathlib.Core.Bool.{not}
-use mathlib.Core.Path.{ap, refl, sym, ◌∙◌}
+use mathlib.Core.Path.{ap, sym, ◌∙◌}
 use native.Mathlib.Omega.{arith}
-use borrow.Author.Rules.{rules}
 use borrow.Author.Tests.{not-true, not-false}
-use lib.Seq.{length-take-le}
 use Rattle.symbols.proofs.Bytes.{test_known}
 use Rattle.passing.proofs.Passing.{first-unknown, first_short, first-whole}
 use Rattle.passing.proofs.first_row.Goals as goal

@@ -1,7 +1,6 @@
 -- `decoder::pass_on` meets its contract. Assumes nothing.
 use mathlib.Core.Path.{◌≡◌}
 use mathlib.Core.Bool.{true, false}
-use borrow.Author.Rules.{rules}
 use Rattle.passing.specs.PassOn.{passed_on}
 use Rattle.passing.proofs.pass_on.Goals as goal
 

@@ -1,9 +1,7 @@
-use mathlib.Core.Path.{◌≡◌, refl, sym}
-use Prim.Native.Nat.{◌-◌, ◌≤◌}
+use mathlib.Core.Path.{refl, sym}
 use native.Mathlib.Omega.{arith}
 use lib.ListN.{replicate}
 use borrow.Author.Rules.{rules}
-use Rattle.lists.specs.Tables.{put}
 use Rattle.lists.proofs.Put.{put-none, put_next}
 use Rattle.symbols.specs.Sizes.{most_symbols}
 use Rattle.symbols.specs.Tables.{places_on}

@@ -1,11 +1,8 @@
 -- `symbols::part_of` meets its contract. The loop's invariant: the places passed hold the table's part. Assumes nothing.
-use mathlib.Core.Path.{◌≡◌, refl, sym}
+use mathlib.Core.Path.{◌≡◌}
 use Prim.Native.Nat.{◌-◌, ◌≤◌}
-use native.Mathlib.Omega.{arith}
 use lib.ListN.{replicate}
-use borrow.Author.Rules.{rules}
 use Rattle.lists.specs.Tables.{put}
-use Rattle.lists.proofs.Put.{put-none, put_next}
 use Rattle.symbols.specs.Sizes.{most_symbols}
 use Rattle.symbols.specs.Tables.{places_on}
 use Rattle.products.proofs.part_of.Given as goal

@@ -3,7 +3,6 @@ use Rattle.symbols.specs.Rule.{size}
 use Rattle.symbols.specs.Tables.{product_number}
 use Rattle.symbols.proofs.Bytes.{known-other}
 use Rattle.symbols.proofs.TableRules.{product-of-list}
-use borrow.Author.Rules.{rules}
 use Rattle.products.proofs.product_in.Goals as goal
 
 pub returns-then-q-eq4 : goal.returns-then-q-eq4

@@ -3,7 +3,6 @@ use mathlib.Core.Path.{◌∙◌}
 use Rattle.symbols.specs.Rule.{size}
 use Rattle.symbols.proofs.Bytes.{known-other}
 use Rattle.symbols.proofs.TableRules.{row-of-list}
-use borrow.Author.Rules.{rules}
 use Rattle.products.proofs.products_in.Goals as goal
 
 pub returns-then-q-eq4 : goal.returns-then-q-eq4

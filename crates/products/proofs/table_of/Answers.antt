@@ -1,10 +1,9 @@
 use mathlib.Core.Path.{◌≡◌, refl, ◌∙◌}
-use Prim.Native.Nat.{ℕ, ◌+◌, ◌-◌, ◌*◌, ◌<◌, ◌≤◌}
+use Prim.Native.Nat.{◌+◌, ◌*◌}
 use native.Mathlib.Omega.{arith}
-use lib.ListN.{length, get_or, length-set}
+use lib.ListN.{get_or, length-set}
 use borrow.Author.Rules.{rules}
 use Rattle.lists.proofs.Put.{set_holds}
-use Rattle.symbols.specs.Sizes.{table_size}
 use Rattle.symbols.specs.Tables.{product_table}
 use Rattle.symbols.proofs.Bytes.{known-other}
 use Rattle.symbols.proofs.TableRules.{product-in, computing}

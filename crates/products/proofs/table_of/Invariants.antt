@@ -1,14 +1,9 @@
 -- `symbols::table_of` meets its contract. The loop's invariant: the places passed hold the table of q = 2. Assumes nothing.
-use mathlib.Core.Path.{◌≡◌, refl, ◌∙◌}
-use Prim.Native.Nat.{ℕ, ◌+◌, ◌-◌, ◌*◌, ◌<◌, ◌≤◌}
-use native.Mathlib.Omega.{arith}
-use lib.ListN.{length, get_or, length-set}
-use borrow.Author.Rules.{rules}
-use Rattle.lists.proofs.Put.{set_holds}
+use mathlib.Core.Path.{◌≡◌}
+use Prim.Native.Nat.{ℕ, ◌-◌, ◌<◌, ◌≤◌}
+use lib.ListN.{length, get_or}
 use Rattle.symbols.specs.Sizes.{table_size}
 use Rattle.symbols.specs.Tables.{product_table}
-use Rattle.symbols.proofs.Bytes.{known-other}
-use Rattle.symbols.proofs.TableRules.{product-in, computing}
 use Rattle.products.proofs.table_of.Given as goal
 
 abbrev pub invariant-loop-i : goal.invariant-loop-i

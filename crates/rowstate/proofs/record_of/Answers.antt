@@ -1,15 +1,7 @@
 -- `rowstate::record_of` meets its contract, case by case.
 -- Assumes nothing.
-use mathlib.Core.Path.{◌≡◌, sym, subst, ◌∙◌}
-use mathlib.Core.Logic.{⊎_elim}
-use Prim.Native.Nat.{ℕ, ◌≤◌}
-use native.Mathlib.Omega.{arith}
-use Rattle.answers.specs.declared.Decoded.{Decoded}
-use Rattle.answers.specs.declared.Decoded.TheVariants.{Accepted}
-use Rattle.layout.specs.Layout.{tape_reach}
-use Rattle.rowstate.specs.Outcome.{Reached}
+use mathlib.Core.Path.{sym, ◌∙◌}
 use Rattle.rowstate.proofs.Records.{outcome-refused, outcome-equal, outcome-other}
-use borrow.Author.Rules.{rules}
 use Rattle.rowstate.proofs.record_of.Goals as goal
 use Rattle.rowstate.proofs.record_of.Goals.{then-is_original, else-is_original}
 

@@ -1,9 +1,6 @@
-use mathlib.Core.Path.{◌≡◌, sym, ◌∙◌}
-use Prim.Native.Nat.{◌-◌, ◌≤◌}
+use mathlib.Core.Path.{sym, ◌∙◌}
 use native.Mathlib.Omega.{arith}
-use lib.ListN.{length, drop}
 use borrow.Author.Rules.{rules}
-use Rattle.lists.specs.Same.{same_list}
 use Rattle.rowstate.proofs.Same.{same_next, same_not, same-all}
 use Rattle.rowstate.proofs.same_symbols.Goals as goal
 

@@ -1,12 +1,9 @@
 -- `rowstate::same_symbols` meets its contract: what is left to compare decides.
 -- Assumes nothing.
-use mathlib.Core.Path.{◌≡◌, sym, ◌∙◌}
+use mathlib.Core.Path.{◌≡◌}
 use Prim.Native.Nat.{◌-◌, ◌≤◌}
-use native.Mathlib.Omega.{arith}
 use lib.ListN.{length, drop}
-use borrow.Author.Rules.{rules}
 use Rattle.lists.specs.Same.{same_list}
-use Rattle.rowstate.proofs.Same.{same_next, same_not, same-all}
 use Rattle.rowstate.proofs.same_symbols.Given as goal
 
 abbrev pub invariant-loop-i : goal.invariant-loop-i

@@ -3,13 +3,10 @@
 use mathlib.Core.Path.{◌≡◌}
 use mathlib.Core.List.{List, ◌++◌}
 use Prim.Native.Nat.{ℕ, ◌-◌, ◌≤◌}
-use native.Mathlib.Omega.{arith}
 use lib.ListN.{length}
 use Rattle.symbols.specs.Rule.{Sym}
 use Rattle.workarea.specs.Area.{shown}
 use Rattle.startarea.specs.StartArea.{begun}
-use Rattle.workarea.proofs.Cells.{still}
-use borrow.Author.Rules.{rules}
 use Rattle.startarea.proofs.add_all_multiples.Given as goal
 
 abbrev pub invariant-loop-i : goal.invariant-loop-i

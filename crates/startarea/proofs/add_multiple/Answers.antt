@@ -1,8 +1,7 @@
 -- The product by y^i alone, with the table row of 1.
 -- Assumes nothing.
 use Rattle.symbols.specs.Rule.{symbols}
-use Rattle.startarea.proofs.StartKinds.{multiple-apart, multiplies-one}
-use borrow.Author.Rules.{rules}
+use Rattle.startarea.proofs.StartKinds.{multiplies-one}
 use Rattle.startarea.proofs.add_multiple.Goals as goal
 
 pub returns : goal.returns

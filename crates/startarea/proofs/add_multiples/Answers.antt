@@ -3,10 +3,8 @@
 use mathlib.Core.Path.{ap, ◌∙◌}
 use mathlib.Core.List.{List, ◌++◌}
 use Prim.Native.Nat.{ℕ}
-use native.Mathlib.Omega.{arith}
-use Rattle.workarea.proofs.Cells.{still, shown-same}
+use Rattle.workarea.proofs.Cells.{shown-same}
 use Rattle.startarea.proofs.StartKinds.{begun_more}
-use borrow.Author.Rules.{rules}
 use Rattle.startarea.proofs.add_multiples.Goals as goal
 
 pub returns : goal.returns

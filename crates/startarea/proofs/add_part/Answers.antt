@@ -1,16 +1,11 @@
 use mathlib.Core.Path.{◌≡◌, sym}
-use Prim.Native.Nat.{ℕ, ◌-◌, ◌≤◌}
 use native.Mathlib.Omega.{arith}
-use lib.ListN.{length, length-set}
-use Rattle.algebra.specs.Symbols.{power}
-use Rattle.symbols.specs.Sizes.{most_symbols}
-use Rattle.symbols.specs.Rule.{Sym, symbols, number, symbol}
-use Rattle.symbols.specs.Tables.{product_row}
+use lib.ListN.{length-set}
+use Rattle.symbols.specs.Rule.{symbol}
 use Rattle.symbols.proofs.Bytes.{number-of-below}
-use Rattle.symbols.specs.Tables.{Holds}
 use Rattle.startarea.specs.StartArea.{}
 use Rattle.workarea.proofs.Multipliers.{multiplies}
-use Rattle.startarea.proofs.StartParts.{Added, added_none, added_more, term-first, term-more, added-all}
+use Rattle.startarea.proofs.StartParts.{added_none, added_more, term-first, term-more, added-all}
 use borrow.Author.Rules.{rules}
 use Rattle.startarea.proofs.add_part.Goals as goal
 
@@ -26,8 +21,7 @@ loop-i-init c = (
 
 pub loop-i-preserved : goal.loop-i-preserved
 loop-i-preserved c =
-    let at = c.loop-i in
-    (
+    let at = c.loop-i in (
       search rules,
       simp length-set at.invariant.1,
       λ a F row held.

@@ -1,19 +1,15 @@
 -- From the highest power down, each turn adds one term and makes the next one.
 -- Assumes nothing.
-use mathlib.Core.Path.{◌≡◌, sym}
+use mathlib.Core.Path.{◌≡◌}
 use Prim.Native.Nat.{ℕ, ◌-◌, ◌≤◌}
-use native.Mathlib.Omega.{arith}
-use lib.ListN.{length, length-set}
+use lib.ListN.{length}
 use Rattle.algebra.specs.Symbols.{power}
 use Rattle.symbols.specs.Sizes.{most_symbols}
 use Rattle.symbols.specs.Rule.{Sym, symbols, number, symbol}
 use Rattle.symbols.specs.Tables.{product_row}
-use Rattle.symbols.proofs.Bytes.{number-of-below}
 use Rattle.symbols.specs.Tables.{Holds}
 use Rattle.startarea.specs.StartArea.{}
-use Rattle.workarea.proofs.Multipliers.{multiplies}
-use Rattle.startarea.proofs.StartParts.{Added, added_none, added_more, term-first, term-more, added-all}
-use borrow.Author.Rules.{rules}
+use Rattle.startarea.proofs.StartParts.{Added}
 use Rattle.startarea.proofs.add_part.Given as goal
 
 abbrev pub invariant-loop-i : goal.invariant-loop-i

@@ -5,7 +5,6 @@ use Rattle.workarea.proofs.Cells.{still}
 use Rattle.workarea.proofs.Sizes.{area_of}
 use Rattle.startarea.proofs.StartBytes.{blank-cleared}
 use Rattle.startarea.proofs.StartCells.{begun_first, begun_all}
-use borrow.Author.Rules.{rules}
 use Rattle.startarea.proofs.begin.Goals as goal
 
 pub put_firsts-requires : goal.put_firsts-requires

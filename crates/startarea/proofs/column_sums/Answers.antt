@@ -1,10 +1,6 @@
-use mathlib.Core.Path.{◌≡◌}
-use Prim.Native.Nat.{◌-◌, ◌≤◌}
 use native.Mathlib.Omega.{arith}
 use Rattle.symbols.proofs.Bytes.{known-low, known-high, square-small}
 use Rattle.symbols.proofs.SymbolLists.{below_all}
-use Rattle.symbols.specs.Tables.{Holds}
-use Rattle.startarea.specs.StartArea.{column_sum}
 use Rattle.startarea.proofs.StartColumns.{holds-cong, holds-zeros, point-place, column-none, column-more}
 use borrow.Author.Rules.{rules}
 use Rattle.startarea.proofs.column_sums.Goals as goal

@@ -5,7 +5,6 @@ use lib.ListN.{length-set}
 use Rattle.workarea.proofs.Sizes.{sizes}
 use Rattle.startarea.proofs.StartBytes.{firsts-fit}
 use Rattle.startarea.proofs.StartFirsts.{firsts-stored}
-use borrow.Author.Rules.{rules}
 use Rattle.startarea.proofs.put_firsts.Goals as goal
 
 pub bounds-work-one : goal.bounds-work-one

@@ -1,9 +1,5 @@
-use mathlib.Core.Path.{◌≡◌}
-use Prim.Native.Nat.{◌+◌, ◌-◌, ◌≤◌}
+use Prim.Native.Nat.{◌+◌}
 use native.Mathlib.Omega.{arith}
-use lib.ListN.{length}
-use Rattle.workarea.specs.Area.{Turns}
-use Rattle.startarea.specs.StartArea.{column_of, rows_minus}
 use Rattle.workarea.proofs.Cells.{row_fits, turns-none, turns_same, turns-both}
 use Rattle.workarea.proofs.Sizes.{sizes}
 use Rattle.startarea.proofs.StartRows.{minus-none, minus-more}

@@ -1,17 +1,10 @@
 -- Each turn subtracts the column from one row more.
 -- Assumes nothing.
 use mathlib.Core.Path.{◌≡◌}
-use Prim.Native.Nat.{◌+◌, ◌-◌, ◌≤◌}
-use native.Mathlib.Omega.{arith}
+use Prim.Native.Nat.{◌-◌, ◌≤◌}
 use lib.ListN.{length}
 use Rattle.workarea.specs.Area.{Turns}
 use Rattle.startarea.specs.StartArea.{column_of, rows_minus}
-use Rattle.workarea.proofs.Cells.{row_fits, turns-none, turns_same, turns-both}
-use Rattle.workarea.proofs.Sizes.{sizes}
-use Rattle.startarea.proofs.StartRows.{minus-none, minus-more}
-use Rattle.startarea.proofs.StartFirsts.{minus-one-small}
-use Rattle.startarea.proofs.StartColumns.{x-values, column-turns}
-use borrow.Author.Rules.{rules}
 use Rattle.startarea.proofs.subtract_column.Given as goal
 
 abbrev pub invariant-loop-j : goal.invariant-loop-j

@@ -1,10 +1,4 @@
-use mathlib.Core.Path.{◌≡◌}
-use Prim.Native.Nat.{◌-◌, ◌*◌, ◌≤◌}
-use native.Mathlib.Omega.{arith}
-use lib.ListN.{length}
-use Rattle.workarea.specs.Area.{Turns}
-use Rattle.startarea.specs.StartArea.{columns_of, rows_minus}
-use Rattle.workarea.proofs.Cells.{still, turns-none, turns_same, turns-both}
+use Rattle.workarea.proofs.Cells.{turns-none, turns_same, turns-both}
 use Rattle.startarea.proofs.StartRows.{minus-zeros, minus_minus}
 use Rattle.startarea.proofs.StartColumns.{columns-none, columns-more}
 use borrow.Author.Rules.{rules}
@@ -15,10 +9,9 @@ loop-a-init c =
     (search rules, search rules, turns_same _ (λ S p r i hp hr hi. minus-zeros _ c.requires.area.known _ _ _ _ S (columns-none _ c.requires.area.known _) p r i) (turns-none _))
 
 pub loop-a-preserved : goal.loop-a-preserved
-loop-a-preserved c =
-    (
-      search rules,
-      search rules,
-      turns_same _ (λ S p r i hp hr hi. minus_minus _ c.requires.area.known _ _ _ _ _ _ S (columns-more _ c.requires.area.known _ _) p r i)
-          (turns-both _ c.loop-a.invariant.2 c.subtract_column.ensures),
-    )
+loop-a-preserved c = (
+  search rules,
+  search rules,
+  turns_same _ (λ S p r i hp hr hi. minus_minus _ c.requires.area.known _ _ _ _ _ _ S (columns-more _ c.requires.area.known _ _) p r i)
+      (turns-both _ c.loop-a.invariant.2 c.subtract_column.ensures),
+)

@@ -2,14 +2,9 @@
 -- Assumes nothing.
 use mathlib.Core.Path.{◌≡◌}
 use Prim.Native.Nat.{◌-◌, ◌*◌, ◌≤◌}
-use native.Mathlib.Omega.{arith}
 use lib.ListN.{length}
 use Rattle.workarea.specs.Area.{Turns}
 use Rattle.startarea.specs.StartArea.{columns_of, rows_minus}
-use Rattle.workarea.proofs.Cells.{still, turns-none, turns_same, turns-both}
-use Rattle.startarea.proofs.StartRows.{minus-zeros, minus_minus}
-use Rattle.startarea.proofs.StartColumns.{columns-none, columns-more}
-use borrow.Author.Rules.{rules}
 use Rattle.startarea.proofs.subtract_h.Given as goal
 
 abbrev pub invariant-loop-a : goal.invariant-loop-a

@@ -1,8 +1,4 @@
-use mathlib.Core.Path.{◌≡◌, sym}
-use Prim.Native.Nat.{◌-◌, ◌≤◌}
-use native.Mathlib.Omega.{arith}
-use lib.ListN.{length}
-use Rattle.startarea.specs.StartArea.{minus_values}
+use mathlib.Core.Path.{sym}
 use Rattle.startarea.proofs.StartBytes.{values-none, values-more}
 use borrow.Author.Rules.{rules}
 use Rattle.startarea.proofs.subtract_values.Goals as goal

@@ -1,12 +1,9 @@
 -- Each turn subtracts one value more.
 -- Assumes nothing.
-use mathlib.Core.Path.{◌≡◌, sym}
+use mathlib.Core.Path.{◌≡◌}
 use Prim.Native.Nat.{◌-◌, ◌≤◌}
-use native.Mathlib.Omega.{arith}
 use lib.ListN.{length}
 use Rattle.startarea.specs.StartArea.{minus_values}
-use Rattle.startarea.proofs.StartBytes.{values-none, values-more}
-use borrow.Author.Rules.{rules}
 use Rattle.startarea.proofs.subtract_values.Given as goal
 
 abbrev pub invariant-loop-i : goal.invariant-loop-i

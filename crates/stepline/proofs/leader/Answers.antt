@@ -2,7 +2,6 @@
 -- Assumes nothing.
 use mathlib.Core.Path.{sym}
 use native.Mathlib.Omega.{arith}
-use borrow.Author.Rules.{rules}
 use Rattle.stepline.proofs.LeadingRows.{leader-upper, leader-lower}
 use Rattle.stepline.proofs.leader.Goals as goal
 

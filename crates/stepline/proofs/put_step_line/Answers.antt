@@ -1,12 +1,8 @@
 -- `stepline::put_step_line` meets its contract: what was read of the area are the line's pieces.
 -- Assumes nothing.
-use mathlib.Core.Path.{sym}
 use native.Mathlib.Omega.{arith}
-use lib.Seq.{length-take-le}
 use Rattle.stepline.proofs.LeadingRows.{line-is}
 use Rattle.stepline.proofs.Lengths.{length-step}
-use borrow.Author.Rules.{rules}
-use Prim.Native.Nat.{◌*◌}
 use Rattle.stepline.proofs.put_step_line.Goals as goal
 
 pub put_step-requires : goal.put_step-requires

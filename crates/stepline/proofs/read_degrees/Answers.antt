@@ -1,7 +1,7 @@
 use mathlib.Core.Path.{◌≡◌, refl, ap, sym, ◌∙◌}
-use Prim.Native.Nat.{ℕ, ◌*◌, ◌-◌, ◌≤◌}
+use Prim.Native.Nat.{ℕ, ◌*◌}
 use native.Mathlib.Omega.{arith}
-use lib.ListN.{length, length-set}
+use lib.ListN.{length-set}
 use Rattle.lists.specs.Tables.{put}
 use Rattle.lists.proofs.Put.{put-none}
 use Rattle.symbols.specs.Rule.{symbols, number}
@@ -28,14 +28,13 @@ loop-r-init c =
     (omega arith, refl, refl, λ S starts. sym (put-none a.degrees.now 0 (row_degree a.q S)))
 
 pub loop-r-preserved : goal.loop-r-preserved
-loop-r-preserved c =
-    (
-      omega (arith, c.loop-r-test.true),
-      refl,
-      simp length-set c.loop-r.invariant.2,
-      λ S starts. row_read c.args.q S c.args.degrees.now c.loop-r.degrees c.loop-r.r
-          c.leading_of-leading.result.degree (c.loop-r.invariant.3 S starts) (row-degree (goal.at.loop-r-preserved c).After-leading_of-leading S starts),
-    )
+loop-r-preserved c = (
+  omega (arith, c.loop-r-test.true),
+  refl,
+  simp length-set c.loop-r.invariant.2,
+  λ S starts. row_read c.args.q S c.args.degrees.now c.loop-r.degrees c.loop-r.r
+      c.leading_of-leading.result.degree (c.loop-r.invariant.3 S starts) (row-degree (goal.at.loop-r-preserved c).After-leading_of-leading S starts),
+)
 
 pub returns : goal.returns
 returns c =

@@ -1,16 +1,13 @@
 -- `stepline::read_degrees` meets its contract. The loop's invariant: the places of the rows passed hold their degrees.
 -- Assumes nothing.
-use mathlib.Core.Path.{◌≡◌, refl, ap, sym, ◌∙◌}
-use Prim.Native.Nat.{ℕ, ◌*◌, ◌-◌, ◌≤◌}
-use native.Mathlib.Omega.{arith}
-use lib.ListN.{length, length-set}
+use mathlib.Core.Path.{◌≡◌}
+use Prim.Native.Nat.{◌*◌, ◌-◌, ◌≤◌}
+use lib.ListN.{length}
 use Rattle.lists.specs.Tables.{put}
-use Rattle.lists.proofs.Put.{put-none}
-use Rattle.symbols.specs.Rule.{symbols, number}
-use Rattle.published.specs.Start.{Polynomials, width}
-use Rattle.published.specs.Pairing.{degree}
+use Rattle.symbols.specs.Rule.{symbols}
+use Rattle.published.specs.Start.{Polynomials}
 use Rattle.workarea.specs.Area.{Starts, cells_of}
-use Rattle.stepline.proofs.LeadingRows.{row_degree, row_read, rows-read}
+use Rattle.stepline.proofs.LeadingRows.{row_degree}
 use Rattle.stepline.proofs.read_degrees.Given as goal
 
 abbrev pub invariant-loop-r : goal.invariant-loop-r

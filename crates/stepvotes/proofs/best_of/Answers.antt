@@ -1,9 +1,6 @@
 use mathlib.Core.Path.{◌≡◌}
-use Prim.Native.Nat.{ℕ, ◌+◌, ◌-◌, ◌*◌, ◌≤◌, ◌<◌}
+use Prim.Native.Nat.{◌+◌, ◌-◌}
 use native.Mathlib.Omega.{arith}
-use lib.ListN.{get_or}
-use Rattle.symbols.specs.Sizes.{most_symbols}
-use Rattle.published.specs.Pairing.{best}
 use Rattle.workarea.proofs.Sizes.{sizes}
 use Rattle.published.proofs.Best.{best-first, best-higher, best-kept}
 use borrow.Author.Rules.{rules}

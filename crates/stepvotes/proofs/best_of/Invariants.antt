@@ -1,14 +1,10 @@
 -- Each turn compares the next symbol with the best so far.
 -- Assumes nothing.
 use mathlib.Core.Path.{◌≡◌}
-use Prim.Native.Nat.{ℕ, ◌+◌, ◌-◌, ◌*◌, ◌≤◌, ◌<◌}
-use native.Mathlib.Omega.{arith}
+use Prim.Native.Nat.{ℕ, ◌-◌, ◌*◌, ◌≤◌, ◌<◌}
 use lib.ListN.{get_or}
 use Rattle.symbols.specs.Sizes.{most_symbols}
 use Rattle.published.specs.Pairing.{best}
-use Rattle.workarea.proofs.Sizes.{sizes}
-use Rattle.published.proofs.Best.{best-first, best-higher, best-kept}
-use borrow.Author.Rules.{rules}
 use Rattle.stepvotes.proofs.best_of.Given as goal
 
 abbrev pub invariant-loop-a : goal.invariant-loop-a

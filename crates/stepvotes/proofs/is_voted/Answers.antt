@@ -4,7 +4,6 @@ use mathlib.Core.Path.{sym, ap, ◌∙◌}
 use mathlib.Core.Bool.{not}
 use Rattle.published.proofs.VotedWeights.{unvoted-above}
 use Rattle.stepvotes.proofs.VoteLaws.{voted-is}
-use borrow.Author.Rules.{rules}
 use Rattle.stepvotes.proofs.is_voted.Goals as goal
 
 pub returns-then-u-s : goal.returns-then-u-s

@@ -2,7 +2,7 @@
 -- Assumes nothing.
 use mathlib.Core.Path.{sym, ap, ◌∙◌}
 use lib.IntN.{nat_abs}
-use Rattle.pair.proofs.Signed.{back, cast_fits, positive-yes, positive-no}
+use Rattle.pair.proofs.Signed.{back, positive-yes, positive-no}
 use Rattle.stepvotes.proofs.positive_part.Goals as goal
 
 pub returns-then-c-gt0 : goal.returns-then-c-gt0

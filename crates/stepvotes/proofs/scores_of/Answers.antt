@@ -1,14 +1,12 @@
 use mathlib.Core.Path.{◌≡◌, ap, ◌∙◌}
-use Prim.Native.Nat.{ℕ, ◌+◌, ◌-◌, ◌*◌, ◌%◌, ◌≤◌, ◌<◌}
+use Prim.Native.Nat.{ℕ, ◌+◌, ◌*◌, ◌%◌, ◌≤◌, ◌<◌}
 use native.Mathlib.Nat.{mod-eq_of_lt, mod-lt}
 use native.Mathlib.Omega.{arith}
-use lib.ListN.{length, get_or, length-set}
-use Rattle.lists.specs.Tables.{tab}
+use lib.ListN.{length, length-set}
 use Rattle.symbols.specs.Sizes.{most_symbols, most_shift}
-use Rattle.symbols.specs.Rule.{symbols}
 use Rattle.symbols.proofs.FieldLaws.{laws-of}
-use Rattle.published.specs.Pairing.{Pairing, score, positive_part}
-use Rattle.pair.specs.Pairs.{NumbersOf, pair_at}
+use Rattle.published.specs.Pairing.{positive_part}
+use Rattle.pair.specs.Pairs.{pair_at}
 use Rattle.workarea.proofs.Sizes.{sizes}
 use Rattle.stepvotes.proofs.ScoreLaws.{score-none, scores-more, bounded-more}
 use Rattle.lists.proofs.Tables.{replicate-at}

@@ -1,19 +1,16 @@
 -- A voting step takes the best of the scores.
 -- Assumes nothing.
-use mathlib.Core.Path.{◌≡◌, refl, ◌∙◌}
-use Prim.Native.Nat.{ℕ}
-use native.Mathlib.Omega.{arith}
+use mathlib.Core.Path.{◌∙◌}
 use Rattle.lists.specs.Tables.{tab}
 use Rattle.symbols.specs.Rule.{symbols}
 use Rattle.published.specs.Pairing.{score}
 use Rattle.stepvotes.proofs.VoteLaws.{vote-yes, vote-no}
-use borrow.Author.Rules.{rules}
 use Rattle.stepvotes.proofs.vote_of.Goals as goal
 
 pub returns-then-voted-clause-by_index_2 : goal.returns-then-voted-clause-by_index_2
 returns-then-voted-clause-by_index_2 c = λ P u s numbers v.
-      vote-yes _ u s _ c.requires.known (tab _ P) (v ∙ c.if-voted.true) c.best_of.ensures.upper_bound
-      (c.best_of.ensures.by_index (score (symbols _) _ (tab _ P)) (c.scores_of-scores.ensures P numbers))
+    vote-yes _ u s _ c.requires.known (tab _ P) (v ∙ c.if-voted.true) c.best_of.ensures.upper_bound
+    (c.best_of.ensures.by_index (score (symbols _) _ (tab _ P)) (c.scores_of-scores.ensures P numbers))
 
 pub returns-clause-by_index_2 : goal.returns-clause-by_index_2
 returns-clause-by_index_2 c = λ P u s numbers v. vote-no _ u s c.requires.known (tab _ P) (v ∙ c.if-voted.false)

@@ -2,14 +2,10 @@
 -- Assumes nothing.
 use mathlib.Core.Path.{◌≡◌}
 use Prim.Native.Nat.{◌-◌, ◌≤◌}
-use native.Mathlib.Omega.{arith}
 use lib.ListN.{length}
 use Rattle.symbols.specs.Rule.{Sym}
 use Rattle.workarea.specs.Area.{Turns, Multiplies}
 use Rattle.substitution.specs.Products.{product_added}
-use Rattle.workarea.proofs.Cells.{still, turns-none, turns_same, turns-both}
-use Rattle.substitution.proofs.ProductCells.{product-none, product-more, product-nothing}
-use borrow.Author.Rules.{rules}
 use Rattle.substitution.proofs.add_product.Given as goal
 
 abbrev pub invariant-loop-j : goal.invariant-loop-j

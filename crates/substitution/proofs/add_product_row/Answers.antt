@@ -2,21 +2,20 @@
 -- Assumes nothing.
 use mathlib.Core.Logic.{inl, inr}
 use native.Mathlib.Omega.{arith}
-use Rattle.workarea.proofs.Cells.{still, turns_same, turns-both}
+use Rattle.workarea.proofs.Cells.{turns_same, turns-both}
 use Rattle.substitution.proofs.ProductCells.{once, twice}
-use borrow.Author.Rules.{rules}
 use Rattle.substitution.proofs.add_product_row.Goals as goal
 
 pub change_row-requires-clause-two_rows : goal.change_row-requires-clause-two_rows
 change_row-requires-clause-two_rows c = let a = c.requires.apart in
     let w = c.source_of-source.ensures in
     record {
-        to-polynomial = a.to-polynomial;
-        to_row = omega (arith, a.to_row);
-        from-polynomial = a.from-polynomial;
-        from_row = omega (arith, a.from_row);
-        differ = λ e d. a.rows _ _ c.requires.j_lt_q.0 w.2 e d;
-      }
+      to-polynomial = a.to-polynomial;
+      to_row = omega (arith, a.to_row);
+      from-polynomial = a.from-polynomial;
+      from_row = omega (arith, a.from_row);
+      differ = λ e d. a.rows _ _ c.requires.j_lt_q.0 w.2 e d;
+    }
 
 pub returns-then-j-eq0 : goal.returns-then-j-eq0
 returns-then-j-eq0 c =

@@ -1,12 +1,5 @@
-use mathlib.Core.Path.{◌≡◌}
-use Prim.Native.Nat.{◌-◌, ◌*◌, ◌≤◌}
-use native.Mathlib.Omega.{arith}
-use lib.ListN.{length}
-use Rattle.symbols.specs.Rule.{Sym}
-use Rattle.workarea.specs.Area.{Turns, Multiplies}
-use Rattle.substitution.specs.Products.{replaced_z}
-use Rattle.workarea.proofs.Cells.{still, turns-none, turns_same, turns-both}
-use Rattle.substitution.proofs.ReplaceCells.{parts-apart, replaced-none, replaced-more}
+use Rattle.workarea.proofs.Cells.{turns-none, turns_same, turns-both}
+use Rattle.substitution.proofs.ReplaceCells.{replaced-none, replaced-more}
 use borrow.Author.Rules.{rules}
 use Rattle.substitution.proofs.replace_z.Goals as goal
 
@@ -15,10 +8,9 @@ loop-p-init c =
     (search rules, search rules, λ ρ m. turns_same _ (λ S p r i hp hr hi. replaced-none _ c.requires.area.known _ _ _ ρ S p r i) (turns-none _))
 
 pub loop-p-preserved : goal.loop-p-preserved
-loop-p-preserved c =
-    (
-      search rules,
-      search rules,
-      λ ρ m. turns_same _ (λ S p r i hp hr hi. replaced-more _ c.requires.area.known _ _ _ ρ _ S p r i)
-          (turns-both _ (c.loop-p.invariant.2 ρ m) (c.add_product.ensures ρ m)),
-    )
+loop-p-preserved c = (
+  search rules,
+  search rules,
+  λ ρ m. turns_same _ (λ S p r i hp hr hi. replaced-more _ c.requires.area.known _ _ _ ρ _ S p r i)
+      (turns-both _ (c.loop-p.invariant.2 ρ m) (c.add_product.ensures ρ m)),
+)

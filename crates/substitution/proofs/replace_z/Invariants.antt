@@ -2,14 +2,10 @@
 -- Assumes nothing.
 use mathlib.Core.Path.{◌≡◌}
 use Prim.Native.Nat.{◌-◌, ◌*◌, ◌≤◌}
-use native.Mathlib.Omega.{arith}
 use lib.ListN.{length}
 use Rattle.symbols.specs.Rule.{Sym}
 use Rattle.workarea.specs.Area.{Turns, Multiplies}
 use Rattle.substitution.specs.Products.{replaced_z}
-use Rattle.workarea.proofs.Cells.{still, turns-none, turns_same, turns-both}
-use Rattle.substitution.proofs.ReplaceCells.{parts-apart, replaced-none, replaced-more}
-use borrow.Author.Rules.{rules}
 use Rattle.substitution.proofs.replace_z.Given as goal
 
 abbrev pub invariant-loop-p : goal.invariant-loop-p

@@ -3,7 +3,6 @@
 use native.Mathlib.Omega.{arith}
 use mathlib.Core.Path.{sym}
 use Rattle.substitution.proofs.Turned.{source-plain, source-turned}
-use borrow.Author.Rules.{rules}
 use Rattle.substitution.proofs.source_of.Goals as goal
 
 pub returns-then-b-j : goal.returns-then-b-j

@@ -5,7 +5,6 @@ use native.Mathlib.Omega.{arith}
 use Rattle.workarea.proofs.Becoming.{becomes, becomes-same}
 use Rattle.workarea.proofs.Multipliers.{multiplies-symbol}
 use Rattle.substitution.proofs.ReplaceLaws.{powers-of, not-gap, powers-small, substituted-none, substituted-cells}
-use borrow.Author.Rules.{rules}
 use Rattle.substitution.proofs.substitute.Goals as goal
 
 pub returns-then-vote-eq0 : goal.returns-then-vote-eq0

@@ -1,9 +1,7 @@
-use mathlib.Core.Path.{◌≡◌, refl, ◌∙◌}
-use Prim.Native.Nat.{◌-◌, ◌≤◌}
+use mathlib.Core.Path.{◌≡◌, ◌∙◌}
 use native.Mathlib.Omega.{arith}
-use lib.ListN.{length, drop}
+use lib.ListN.{length}
 use borrow.Author.Rules.{rules}
-use Rattle.symbols.specs.Rule.{any_beyond}
 use Rattle.symbols.proofs.Bytes.{square-small}
 use Rattle.symbols.proofs.SymbolLists.{beyond-here, beyond-next, beyond-end}
 use Rattle.symbols.proofs.all_symbols.Goals as goal
@@ -23,12 +21,11 @@ returns-then-size-list c =
     )
 
 pub loop-i-preserved : goal.loop-i-preserved
-loop-i-preserved c =
-    (
-      search rules,
-      c.loop-i.invariant.1
-          ∙ beyond-next c.args.q c.args.list.now c.loop-i.i (omega arith) (omega arith),
-    )
+loop-i-preserved c = (
+  search rules,
+  c.loop-i.invariant.1
+      ∙ beyond-next c.args.q c.args.list.now c.loop-i.i (omega arith) (omega arith),
+)
 
 pub returns : goal.returns
 returns c =

@@ -1,12 +1,8 @@
 -- `symbols::all_symbols` meets its contract. The loop's invariant: what is left of the list decides. Assumes nothing.
-use mathlib.Core.Path.{◌≡◌, refl, ◌∙◌}
+use mathlib.Core.Path.{◌≡◌}
 use Prim.Native.Nat.{◌-◌, ◌≤◌}
-use native.Mathlib.Omega.{arith}
 use lib.ListN.{length, drop}
-use borrow.Author.Rules.{rules}
 use Rattle.symbols.specs.Rule.{any_beyond}
-use Rattle.symbols.proofs.Bytes.{square-small}
-use Rattle.symbols.proofs.SymbolLists.{beyond-here, beyond-next, beyond-end}
 use Rattle.symbols.proofs.all_symbols.Given as goal
 
 abbrev pub invariant-loop-i : goal.invariant-loop-i

@@ -1,7 +1,6 @@
 -- `symbols::inverse` meets its contract: each table is what antt computes by the rule. Assumes nothing.
 use Rattle.symbols.proofs.Bytes.{known-other}
 use Rattle.symbols.proofs.TableRules.{inverse-at, computing}
-use borrow.Author.Rules.{rules}
 use Rattle.symbols.proofs.inverse.Goals as goal
 
 pub returns-then-q-eq4 : goal.returns-then-q-eq4

@@ -10,10 +10,8 @@ use Rattle.lines.proofs.Writing.{wrote-within}
 use Rattle.refusals.specs.declared.Refusal.TheVariants.{WrongLength}
 use Rattle.request.specs.Reader.{count_in, saying}
 use Rattle.trace.specs.Trace.{answer, answer_to, trace_text}
-use Rattle.request.proofs.Meaning.{reading-means}
 use Rattle.report.specs.Report.{refuse_line}
 use Rattle.trace.proofs.Lengths.{length-refused, length-trace, longest-is}
-use borrow.Author.Rules.{rules}
 use Rattle.trace.proofs.trace.Goals as goal
 use Rattle.trace.proofs.trace.Goals.{In-Asks, In-Nothing}
 

@@ -1,32 +1,21 @@
-use mathlib.Core.Path.{◌≡◌}
-use Prim.Native.Nat.{ℕ, ◌-◌, ◌≤◌, ◌<◌}
-use native.Mathlib.Omega.{arith}
-use lib.ListN.{length}
 use Rattle.lists.specs.Tables.{tab}
-use Rattle.symbols.specs.Rule.{symbols, Sym, number}
-use Rattle.published.specs.Start.{Polynomials}
-use Rattle.published.specs.Pairing.{Pairing}
+use Rattle.symbols.specs.Rule.{symbols}
 use Rattle.published.specs.Steps.{updated}
-use Rattle.workarea.specs.Area.{cells_of}
-use Rattle.workarea.specs.Heights.{Heights, WithinHeights, BecomesBelow}
-use Rattle.pair.specs.Pairs.{NumbersOf, pair_at}
-use Rattle.workarea.proofs.Cells.{still}
 use Rattle.workarea.proofs.Becoming.{becomes-same, becomes-below}
 use Rattle.updates.proofs.ChangeLaws.{updated_none, updated-more}
 use borrow.Author.Rules.{rules}
 use Rattle.updates.proofs.change_all.Goals as goal
 
 pub loop-i-init : goal.loop-i-init
-loop-i-init c =
-    (
-      search rules,
-      search rules,
-      search rules,
-      c.requires.heights,
-      λ S ω P ev n below.
-          let none = updated_none _ S ω (tab _ P) in
-          record { becomes = becomes-same _ S _ none; below = rw none below },
-    )
+loop-i-init c = (
+  search rules,
+  search rules,
+  search rules,
+  c.requires.heights,
+  λ S ω P ev n below.
+      let none = updated_none _ S ω (tab _ P) in
+      record { becomes = becomes-same _ S _ none; below = rw none below },
+)
 
 pub loop-i-preserved : goal.loop-i-preserved
 loop-i-preserved c =

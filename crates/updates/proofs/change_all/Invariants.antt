@@ -2,7 +2,6 @@
 -- Assumes nothing.
 use mathlib.Core.Path.{◌≡◌}
 use Prim.Native.Nat.{ℕ, ◌-◌, ◌≤◌, ◌<◌}
-use native.Mathlib.Omega.{arith}
 use lib.ListN.{length}
 use Rattle.lists.specs.Tables.{tab}
 use Rattle.symbols.specs.Rule.{symbols, Sym, number}
@@ -12,10 +11,6 @@ use Rattle.published.specs.Steps.{updated}
 use Rattle.workarea.specs.Area.{cells_of}
 use Rattle.workarea.specs.Heights.{Heights, WithinHeights, BecomesBelow}
 use Rattle.pair.specs.Pairs.{NumbersOf, pair_at}
-use Rattle.workarea.proofs.Cells.{still}
-use Rattle.workarea.proofs.Becoming.{becomes-same, becomes-below}
-use Rattle.updates.proofs.ChangeLaws.{updated_none, updated-more}
-use borrow.Author.Rules.{rules}
 use Rattle.updates.proofs.change_all.Given as goal
 
 abbrev pub invariant-loop-i : goal.invariant-loop-i

@@ -1,11 +1,4 @@
-use mathlib.Core.Path.{◌≡◌}
-use Prim.Native.Nat.{◌-◌, ◌*◌, ◌≤◌}
-use native.Mathlib.Omega.{arith}
-use lib.ListN.{length}
-use Rattle.symbols.specs.Rule.{Sym}
-use Rattle.workarea.specs.Area.{Turns, Multiplies}
-use Rattle.updates.specs.Updates.{polynomial_reduced}
-use Rattle.workarea.proofs.Cells.{still, turns-none, turns_same, turns-both}
+use Rattle.workarea.proofs.Cells.{turns-none, turns_same, turns-both}
 use Rattle.updates.proofs.UpdateCells.{reduced-none, reduced-more}
 use borrow.Author.Rules.{rules}
 use Rattle.updates.proofs.reduce_polynomial.Goals as goal
@@ -15,10 +8,9 @@ loop-r-init c =
     (search rules, search rules, λ ρ m. turns_same _ (λ S p r i hp hr hi. reduced-none _ c.requires.area.known _ _ _ c.requires.f_bound.2 ρ S _ p r i) (turns-none _))
 
 pub loop-r-preserved : goal.loop-r-preserved
-loop-r-preserved c =
-    (
-      search rules,
-      search rules,
-      λ ρ m. turns_same _ (λ S p r i hp hr hi. reduced-more _ c.requires.area.known _ _ _ c.requires.f_bound.2 ρ S _ _ p r i)
-          (turns-both _ (c.loop-r.invariant.2 ρ m) (rw c.row_height-count.ensures at (c.change_row.ensures ρ m))),
-    )
+loop-r-preserved c = (
+  search rules,
+  search rules,
+  λ ρ m. turns_same _ (λ S p r i hp hr hi. reduced-more _ c.requires.area.known _ _ _ c.requires.f_bound.2 ρ S _ _ p r i)
+      (turns-both _ (c.loop-r.invariant.2 ρ m) (rw c.row_height-count.ensures at (c.change_row.ensures ρ m))),
+)

@@ -2,14 +2,10 @@
 -- Assumes nothing.
 use mathlib.Core.Path.{◌≡◌}
 use Prim.Native.Nat.{◌-◌, ◌*◌, ◌≤◌}
-use native.Mathlib.Omega.{arith}
 use lib.ListN.{length}
 use Rattle.symbols.specs.Rule.{Sym}
 use Rattle.workarea.specs.Area.{Turns, Multiplies}
 use Rattle.updates.specs.Updates.{polynomial_reduced}
-use Rattle.workarea.proofs.Cells.{still, turns-none, turns_same, turns-both}
-use Rattle.updates.proofs.UpdateCells.{reduced-none, reduced-more}
-use borrow.Author.Rules.{rules}
 use Rattle.updates.proofs.reduce_polynomial.Given as goal
 
 abbrev pub invariant-loop-r : goal.invariant-loop-r

@@ -3,7 +3,6 @@
 use mathlib.Core.Path.{sym, ◌∙◌}
 use native.Mathlib.Omega.{arith}
 use Rattle.updates.proofs.UpdateCells.{height-upper, height-lower}
-use borrow.Author.Rules.{rules}
 use Rattle.updates.proofs.row_height.Goals as goal
 
 pub returns-then-r-q : goal.returns-then-r-q

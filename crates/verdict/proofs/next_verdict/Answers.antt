@@ -3,7 +3,6 @@
 use Rattle.verdict.specs.RowByRow.{total_of}
 use Rattle.verdict.proofs.Verdicts.{settled-stays, next-equal, next-differs, next-unreadable}
 use native.Mathlib.Omega.{arith}
-use borrow.Author.Rules.{rules}
 use Rattle.verdict.proofs.next_verdict.Goals as goal
 
 pub returns-in_default : goal.returns-in_default

@@ -8,7 +8,6 @@ use native.Mathlib.Omega.{arith}
 use borrow.Author.Tests.{not-true, not-false}
 use Rattle.layout.specs.Layout.{message_bytes, row_count, is_block}
 use Rattle.verdict.proofs.Start.{area-is, before-9, before-10, before-11, before-6, before-none}
-use borrow.Author.Rules.{rules}
 use Rattle.verdict.proofs.verdict_before.Goals as goal
 use Rattle.verdict.proofs.verdict_before.Goals.{After-shared_slice_known-2-1, Else-not-is_block, Else-payload-rows}
 

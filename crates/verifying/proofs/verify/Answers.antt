@@ -6,7 +6,6 @@ use borrow.Author.Rules.{rules}
 use Rattle.lists.specs.Tables.{from, tab}
 use Rattle.lists.proofs.Filled.{fill-next}
 use Rattle.taperow.specs.Reading.{row_record}
-use Rattle.verifying.specs.Copy.{CopiedExactly}
 use Rattle.verifying.proofs.Rounds.{worked, worked-next, after, after_next, Ready, ready, rows_read}
 use Rattle.verifying.proofs.Copies.{copied-is-a-copy}
 use Rattle.verifying.proofs.NearCopies.{verify-exactly}
@@ -44,7 +43,7 @@ bounds-records-r c = omega (arith, (ready-here (goal.at.bounds-records-r c).In-l
 pub next_verdict-verdict-requires : goal.next_verdict-verdict-requires
 next_verdict-verdict-requires c =
     rw (c.loop-r.invariant.verdict, c.verdict_before-verdict.ensures.0, c.row_record-outcome.ensures.0)
-        (ready-here (goal.at.next_verdict-verdict-requires c).In-loop-r).sum
+    (ready-here (goal.at.next_verdict-verdict-requires c).In-loop-r).sum
 
 pub loop-r-preserved : goal.loop-r-preserved
 loop-r-preserved c =
@@ -82,14 +81,18 @@ pub returns-clause-copied : goal.returns-clause-copied
 returns-clause-copied c =
     let a = c.args in
     let answer =
-        c.loop-r.invariant.verdict
-        ∙ (rw (c.verdict_before-verdict.ensures.0, all-read (goal.at.returns-clause-copied c).After-loop-r)
-        (verify-answer a.block.now a.payload.now a.records.now a.work.now)) in
+    c.loop-r.invariant.verdict
+    ∙ (rw (c.verdict_before-verdict.ensures.0, all-read (goal.at.returns-clause-copied c).After-loop-r)
+    (verify-answer a.block.now a.payload.now a.records.now a.work.now)) in
     λ total is. copied-is-a-copy _ _ a.records.now a.work.now total (sym answer ∙ is)
 
 pub returns-clause-exactly : goal.returns-clause-exactly
 returns-clause-exactly c =
     let a = c.args in
-    rw (c.loop-r.invariant.verdict, c.verdict_before-verdict.ensures.0, all-read (goal.at.returns-clause-exactly c).After-loop-r,
-    verify-answer a.block.now a.payload.now a.records.now a.work.now)
+    rw (
+      c.loop-r.invariant.verdict,
+      c.verdict_before-verdict.ensures.0,
+      all-read (goal.at.returns-clause-exactly c).After-loop-r,
+      verify-answer a.block.now a.payload.now a.records.now a.work.now,
+    )
     (verify-exactly _ _ c.verdict_before-verdict.ensures.1 c.verdict_before-verdict.ensures.2 a.records.now a.work.now)

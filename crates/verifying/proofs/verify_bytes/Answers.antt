@@ -1,12 +1,10 @@
-use mathlib.Core.Path.{◌≡◌, refl, sym, ◌∙◌}
-use mathlib.Core.List.{◌++◌}
-use Prim.Native.Nat.{◌-◌, ◌*◌, ◌/◌, ◌≤◌}
+use mathlib.Core.Path.{refl, sym, ◌∙◌}
+use Prim.Native.Nat.{◌/◌}
 use native.Mathlib.Nat.{le_antisymm}
 use native.Mathlib.Omega.{arith}
-use lib.ListN.{length, drop, length-set}
+use lib.ListN.{length, length-set}
 use borrow.Author.Rules.{rules}
 use Rattle.lists.specs.Tables.{from, tab}
-use Rattle.taperow.specs.Reading.{row_record}
 use Rattle.verifying.specs.AsBytes.{record_bytes}
 use Rattle.verifying.proofs.Rounds.{worked, worked-next, after, after_next, Ready, ready}
 use Rattle.verifying.proofs.Copies.{copied-bytes-is-a-copy}

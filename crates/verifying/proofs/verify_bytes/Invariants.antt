@@ -1,19 +1,13 @@
 -- `block::verify_bytes` meets its contract: after r rows the first 2r bytes are their records, the work area is `worked r`,
 -- and the verdict is `after` r rows. Assumes nothing.
-use mathlib.Core.Path.{◌≡◌, refl, sym, ◌∙◌}
+use mathlib.Core.Path.{◌≡◌}
 use mathlib.Core.List.{◌++◌}
-use Prim.Native.Nat.{◌-◌, ◌*◌, ◌/◌, ◌≤◌}
-use native.Mathlib.Nat.{le_antisymm}
-use native.Mathlib.Omega.{arith}
-use lib.ListN.{length, drop, length-set}
-use borrow.Author.Rules.{rules}
-use Rattle.lists.specs.Tables.{from, tab}
+use Prim.Native.Nat.{◌-◌, ◌*◌, ◌≤◌}
+use lib.ListN.{length, drop}
+use Rattle.lists.specs.Tables.{tab}
 use Rattle.taperow.specs.Reading.{row_record}
 use Rattle.verifying.specs.AsBytes.{record_bytes}
-use Rattle.verifying.proofs.Rounds.{worked, worked-next, after, after_next, Ready, ready}
-use Rattle.verifying.proofs.Copies.{copied-bytes-is-a-copy}
-use Rattle.verifying.proofs.NearCopies.{verify-bytes-exactly}
-use Rattle.verifying.proofs.Ends.{bytes_next, bytes-answer, bytes-records, bytes-work}
+use Rattle.verifying.proofs.Rounds.{worked, after}
 use Rattle.verifying.proofs.verify_bytes.Given as goal
 
 abbrev pub invariant-loop-r : goal.invariant-loop-r

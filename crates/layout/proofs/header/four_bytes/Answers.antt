@@ -1,7 +1,6 @@
 -- `layout::header::four_bytes` meets its contract.
 -- Assumes nothing.
 use Rattle.layout.specs.Layout.{four_bytes}
-use borrow.Author.Rules.{rules}
 use Rattle.layout.proofs.header.four_bytes.Goals as goal
 
 pub returns : goal.returns

@@ -2,7 +2,6 @@
 -- Assumes nothing.
 use borrow.Author.Tests.{eq-eqb, ne_eqb}
 use Rattle.layout.specs.Layout.{is_block}
-use borrow.Author.Rules.{rules}
 use Rattle.layout.proofs.header.is_block.Goals as goal
 
 pub returns-then-block-row_count : goal.returns-then-block-row_count

@@ -6,7 +6,6 @@ use lib.Dec.{leb}
 use borrow.Author.Tests.{le-leb, lt-leb}
 use borrow.Author.Tests.{eq-eqb, ne_eqb}
 use Rattle.layout.specs.Layout.{is_header}
-use borrow.Author.Rules.{rules}
 use Rattle.layout.proofs.header.is_header.Goals as goal
 use Rattle.layout.proofs.header.is_header.Goals.{Else-byte_at-ne-TAPE_U}
 

@@ -1,8 +1,5 @@
 -- `layout::header::put_header` meets its contract: eight stores one after the other. Assumes nothing.
-use lib.ListN.{length-set}
 use lib.Seq.{sets-eq}
-use native.Mathlib.Omega.{arith}
-use borrow.Author.Rules.{rules}
 use Rattle.layout.specs.Layout.{in_two_bytes, in_four_bytes, header_of}
 use Rattle.layout.proofs.header.put_header.Goals as goal
 

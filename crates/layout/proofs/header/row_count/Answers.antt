@@ -1,7 +1,6 @@
 -- `layout::header::row_count` meets its contract.
 -- Assumes nothing.
 use Rattle.layout.specs.Layout.{row_count}
-use borrow.Author.Rules.{rules}
 use Rattle.layout.proofs.header.row_count.Goals as goal
 
 pub returns : goal.returns

@@ -2,7 +2,6 @@
 -- Assumes nothing.
 use native.Mathlib.Omega.{arith}
 use Rattle.layout.specs.Layout.{two_bytes}
-use borrow.Author.Rules.{rules}
 use Rattle.layout.proofs.header.two_bytes.Goals as goal
 
 pub returns : goal.returns

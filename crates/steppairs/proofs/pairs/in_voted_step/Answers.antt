@@ -6,7 +6,6 @@ use mir.Syntax.{w64}
 use mir.Val.{to_z, of_z}
 use Rattle.pair.proofs.Signed.{back, whole-yes, whole-no}
 use Rattle.steppairs.proofs.PairNumbers.{quotient_is, voted-negative, voted-whole}
-use borrow.Author.Rules.{rules}
 use Rattle.steppairs.proofs.pairs.in_voted_step.Goals as goal
 use Rattle.steppairs.proofs.pairs.in_voted_step.Goals.{Start}
 

@@ -10,7 +10,6 @@ use Rattle.published.specs.Pairing.{positive_part}
 use Rattle.workarea.specs.Area.{cells_of}
 use Rattle.pair.proofs.Signed.{back, whole_is, cast_fits}
 use Rattle.steppairs.proofs.PairNumbers.{looked-cell, negative-is}
-use borrow.Author.Rules.{rules}
 use Rattle.steppairs.proofs.pairs.negative_at.Goals as goal
 use Rattle.steppairs.proofs.pairs.negative_at.Goals.{Start}
 

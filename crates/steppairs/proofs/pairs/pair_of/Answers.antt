@@ -18,7 +18,6 @@ use Rattle.workarea.specs.Heights.{WithinHeights}
 use Rattle.pair.specs.Pairs.{Held}
 use Rattle.pair.proofs.Signed.{Divided, divided, k-small, back, less-small, less-fits, less-value}
 use Rattle.steppairs.proofs.PairNumbers.{lead-f, pair-voted, pair-unvoted}
-use borrow.Author.Rules.{rules}
 use Rattle.steppairs.proofs.pairs.pair_of.Goals as goal
 use Rattle.steppairs.proofs.pairs.pair_of.Goals.{After-leading_below-f, After-leading_of-g}
 
@@ -72,7 +71,7 @@ numbers_at : (c : After-leading_of-g)
     → Numbers c.args.q (c.args.q * c.leading_below-f.result.degree + (c.args.q + 1) * c.args.i + c.args.s) c.quotient_of-k.result c.leading_of-g.result.degree
 numbers_at c =
     numbers c.requires.area c.requires.i_lt_q.0 c.requires.i_lt_q.1 c.leading_below-f.ensures.degree_bound c.quotient_of-k.ensures
-        c.leading_of-g.ensures.degree_bound
+    c.leading_of-g.ensures.degree_bound
 
 -- the leading symbol of f_i: the height is that of the upper row that is read
 leads : (c : After-leading_below-f) → (S : Polynomials (symbols c.args.q) c.args.q) → WithinHeights c.args.q c.args.heights.now (cells_of c.args.q S)
@@ -112,10 +111,10 @@ returns-then-voted-clause-numbers_of c =
     let r = c.remainder-partner.ensures in
     let all = numbers_at (goal.at.returns-then-voted-clause-numbers_of c).After-leading_of-g in
     λ S u narrow below z v.
-        let lead = leads (goal.at.returns-then-voted-clause-numbers_of c).After-leading_below-f S below z in
-        pair-voted _ S u _ _ c.leading_below-f.result c.leading_of-g.result lead (rw r at (c.leading_of-g.ensures.leading_of (cells_of _ S) z))
-        _ r all.c-is refl c.in_voted_step-named.result refl refl (v ∙ c.if-voted.true)
-        (rw (r, all.k-is) at (c.in_voted_step-named.ensures S _ narrow z (lead-f _ S _ _ lead)))
+    let lead = leads (goal.at.returns-then-voted-clause-numbers_of c).After-leading_below-f S below z in
+    pair-voted _ S u _ _ c.leading_below-f.result c.leading_of-g.result lead (rw r at (c.leading_of-g.ensures.leading_of (cells_of _ S) z))
+    _ r all.c-is refl c.in_voted_step-named.result refl refl (v ∙ c.if-voted.true)
+    (rw (r, all.k-is) at (c.in_voted_step-named.ensures S _ narrow z (lead-f _ S _ _ lead)))
 
 pub returns-else-voted-clause-held : goal.returns-else-voted-clause-held
 returns-else-voted-clause-held c = held (goal.at.returns-else-voted-clause-held c).After-leading_of-g _ _
@@ -125,7 +124,7 @@ returns-else-voted-clause-numbers_of c =
     let r = c.remainder-partner.ensures in
     let all = numbers_at (goal.at.returns-else-voted-clause-numbers_of c).After-leading_of-g in
     λ S u narrow below z v.
-        pair-unvoted _ S u _ _ c.leading_below-f.result c.leading_of-g.result
-        (leads (goal.at.returns-else-voted-clause-numbers_of c).After-leading_below-f S below z) (rw r at (c.leading_of-g.ensures.leading_of (cells_of _ S) z))
-        _ r all.c-is refl c.in_unvoted_step-named.result refl refl (v ∙ c.if-voted.false)
-        (rw (r, all.k-is) at (c.in_unvoted_step-named.ensures S narrow z))
+    pair-unvoted _ S u _ _ c.leading_below-f.result c.leading_of-g.result
+    (leads (goal.at.returns-else-voted-clause-numbers_of c).After-leading_below-f S below z) (rw r at (c.leading_of-g.ensures.leading_of (cells_of _ S) z))
+    _ r all.c-is refl c.in_unvoted_step-named.result refl refl (v ∙ c.if-voted.false)
+    (rw (r, all.k-is) at (c.in_unvoted_step-named.ensures S narrow z))

@@ -2,9 +2,7 @@
 -- Assumes nothing.
 use mathlib.Core.Path.{◌≡◌}
 use Prim.Native.Nat.{ℕ, ◌-◌, ◌≤◌, ◌<◌}
-use native.Mathlib.Omega.{arith}
-use lib.ListN.{length, length-set}
-use Rattle.lists.proofs.Put.{set_holds}
+use lib.ListN.{length}
 use Rattle.symbols.specs.Sizes.{most_q}
 use Rattle.symbols.specs.Rule.{symbols}
 use Rattle.published.specs.Start.{Polynomials}
@@ -12,7 +10,6 @@ use Rattle.published.specs.Pairing.{is_voted, pairing}
 use Rattle.workarea.specs.Area.{cells_of, Starts, Narrow}
 use Rattle.workarea.specs.Heights.{WithinHeights}
 use Rattle.pair.specs.Pairs.{Held, NumbersOf, pair_at}
-use borrow.Author.Rules.{rules}
 use Rattle.steppairs.proofs.pairs.pairs_of.Given as goal
 
 abbrev pub invariant-loop-i : goal.invariant-loop-i

@@ -3,8 +3,7 @@
 use Prim.Native.Nat.{◌+◌, ◌*◌, ◌%◌}
 use native.Mathlib.Omega.{arith}
 use Rattle.symbols.proofs.Bytes.{known-other}
-use Rattle.pair.proofs.Signed.{Divided, divided, difference-fits, k-fits, k-value}
-use borrow.Author.Rules.{rules}
+use Rattle.pair.proofs.Signed.{Divided, divided, difference-fits, k-value}
 use Rattle.steppairs.proofs.pairs.quotient_of.Goals as goal
 use Rattle.steppairs.proofs.pairs.quotient_of.Goals.{Start}
 

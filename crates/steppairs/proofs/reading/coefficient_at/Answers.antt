@@ -6,7 +6,6 @@ use Rattle.symbols.specs.Rule.{number}
 use Rattle.symbols.proofs.FieldLaws.{laws-of}
 use Rattle.workarea.proofs.Cells.{row_fits, shown_read}
 use Rattle.workarea.proofs.Sizes.{row_small}
-use borrow.Author.Rules.{rules}
 use Rattle.steppairs.proofs.reading.coefficient_at.Goals as goal
 
 pub overflow_add-result : goal.overflow_add-result

@@ -1,17 +1,12 @@
-use mathlib.Core.Path.{◌≡◌, sym, ap, ◌∙◌}
-use Prim.Native.Nat.{◌-◌, ◌≤◌}
+use mathlib.Core.Path.{sym, ap, ◌∙◌}
+use Prim.Native.Nat.{◌-◌}
 use native.Mathlib.Nat.{add-zero}
 use native.Mathlib.Omega.{arith}
 use Rattle.symbols.specs.Rule.{number}
 use Rattle.symbols.proofs.FieldLaws.{laws-of}
-use Rattle.published.specs.Start.{width}
-use Rattle.published.specs.Pairing.{degree}
-use Rattle.workarea.specs.Area.{Cells, Starts}
-use Rattle.steppairs.specs.Reading.{Short}
 use Rattle.workarea.proofs.Cells.{row_fits, shown_read}
 use Rattle.workarea.proofs.Sizes.{row_small}
 use Rattle.steppairs.proofs.Degrees.{degree-skip, degree-found, degree-none, degree-above}
-use borrow.Author.Rules.{rules}
 use Rattle.steppairs.proofs.reading.leading_below.Goals as goal
 
 pub loop-i-init : goal.loop-i-init
@@ -28,21 +23,20 @@ bounds-work-at c =
 
 pub returns-then-work-at-ne0-clause-leading_of : goal.returns-then-work-at-ne0-clause-leading_of
 returns-then-work-at-ne0-clause-leading_of c = λ S z short.
-          let read = shown_read _ S _ z.rest z.is _ _ (c.loop-i.i - 1) c.requires.p_bound.0 c.requires.p_bound.1 (omega arith) in
-          record {
-            degree-is = sym (c.loop-i.invariant.1 S z short ∙ degree-found _ _ (omega arith) (λ e. c.if-work-at-ne0.true ((rw c.row_place-at.ensures read) ∙ e)));
-            coefficient-is = rw c.row_place-at.ensures read;
-          }
+    let read = shown_read _ S _ z.rest z.is _ _ (c.loop-i.i - 1) c.requires.p_bound.0 c.requires.p_bound.1 (omega arith) in
+    record {
+      degree-is = sym (c.loop-i.invariant.1 S z short ∙ degree-found _ _ (omega arith) (λ e. c.if-work-at-ne0.true ((rw c.row_place-at.ensures read) ∙ e)));
+      coefficient-is = rw c.row_place-at.ensures read;
+    }
 
 pub loop-i-preserved : goal.loop-i-preserved
-loop-i-preserved c =
-    (
-      omega arith,
-      λ S z short.
-          c.loop-i.invariant.1 S z short
-          ∙ degree-skip _ _ (omega arith)
-          (sym (shown_read _ S _ z.rest z.is _ _ (c.loop-i.i - 1) c.requires.p_bound.0 c.requires.p_bound.1 (omega arith)) ∙ (rw (← c.row_place-at.ensures) c.if-work-at-ne0.false)),
-    )
+loop-i-preserved c = (
+  omega arith,
+  λ S z short.
+      c.loop-i.invariant.1 S z short
+      ∙ degree-skip _ _ (omega arith)
+      (sym (shown_read _ S _ z.rest z.is _ _ (c.loop-i.i - 1) c.requires.p_bound.0 c.requires.p_bound.1 (omega arith)) ∙ (rw (← c.row_place-at.ensures) c.if-work-at-ne0.false)),
+)
 
 pub bounds-work-at-2 : goal.bounds-work-at-2
 bounds-work-at-2 c =
@@ -50,8 +44,8 @@ bounds-work-at-2 c =
 
 pub returns-clause-leading_of : goal.returns-clause-leading_of
 returns-clause-leading_of c = λ S z short.
-          let read = shown_read _ S _ z.rest z.is _ _ 0 c.requires.p_bound.0 c.requires.p_bound.1 (omega (arith, c.requires.area.square)) in
-          record {
-            degree-is = sym (c.loop-i.invariant.1 S z short ∙ degree-none _ _ (omega arith));
-            coefficient-is = rw c.row_place-at.ensures (rw add-zero at read);
-          }
+    let read = shown_read _ S _ z.rest z.is _ _ 0 c.requires.p_bound.0 c.requires.p_bound.1 (omega (arith, c.requires.area.square)) in
+    record {
+      degree-is = sym (c.loop-i.invariant.1 S z short ∙ degree-none _ _ (omega arith));
+      coefficient-is = rw c.row_place-at.ensures (rw add-zero at read);
+    }

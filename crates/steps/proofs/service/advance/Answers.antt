@@ -3,9 +3,7 @@
 use mathlib.Core.Path.{sym, ap, ◌∙◌}
 use mathlib.Core.List.{List, ◌++◌}
 use Prim.Native.Nat.{ℕ}
-use native.Mathlib.Omega.{arith}
 use lib.ListN.{drop}
-use borrow.Author.Rules.{rules}
 use Rattle.curve.specs.Codes.{dimension}
 use Rattle.published.specs.Picture.{area_size}
 use Rattle.steps.proofs.VotePlaces.{picture-first, votes-first}

@@ -2,7 +2,6 @@
 use mathlib.Core.Path.{◌≡◌, sym, ap, subst, ◌∙◌}
 use mathlib.Core.List.{List}
 use Prim.Native.Nat.{ℕ}
-use borrow.Author.Rules.{rules}
 use Rattle.symbols.specs.Rule.{symbols}
 use Rattle.curve.specs.declared.Code.{Code}
 use Rattle.curve.specs.Answers.{code_of}

@@ -1,16 +1,10 @@
 use mathlib.Core.Path.{◌≡◌, refl, sym, ap, ◌∙◌}
-use mathlib.Core.List.{List, ◌++◌}
-use Prim.Native.Nat.{ℕ, ◌+◌, ◌-◌, ◌<◌, ◌≤◌}
+use Prim.Native.Nat.{◌-◌, ◌<◌}
 use native.Mathlib.Nat.{sub-zero}
 use native.Mathlib.Omega.{arith}
-use lib.ListN.{length}
 use borrow.Author.Rules.{rules}
-use Rattle.symbols.specs.Sizes.{most_polynomials}
 use Rattle.curve.proofs.CodeLaws.{code_below}
 use Rattle.published.specs.Start.{step_count}
-use Rattle.workarea.specs.Heights.{Heights}
-use Rattle.steps.specs.Step.{BelowAfter}
-use Rattle.steps.specs.Stop.{picture_after, votes_after}
 use Rattle.steps.specs.Votes.{votes_below, noted}
 use Rattle.workarea.proofs.HeightLaws.{start-many}
 use Rattle.steps.proofs.StartHeights.{below-start}

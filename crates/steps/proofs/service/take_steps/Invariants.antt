@@ -1,22 +1,15 @@
 -- After each turn the area holds the picture, and the votes are those, of one step more.
 -- Assumes nothing.
-use mathlib.Core.Path.{◌≡◌, refl, sym, ap, ◌∙◌}
+use mathlib.Core.Path.{◌≡◌}
 use mathlib.Core.List.{List, ◌++◌}
-use Prim.Native.Nat.{ℕ, ◌+◌, ◌-◌, ◌<◌, ◌≤◌}
-use native.Mathlib.Nat.{sub-zero}
-use native.Mathlib.Omega.{arith}
+use Prim.Native.Nat.{ℕ, ◌-◌, ◌≤◌}
 use lib.ListN.{length}
-use borrow.Author.Rules.{rules}
 use Rattle.symbols.specs.Sizes.{most_polynomials}
-use Rattle.curve.proofs.CodeLaws.{code_below}
 use Rattle.published.specs.Start.{step_count}
 use Rattle.workarea.specs.Heights.{Heights}
 use Rattle.steps.specs.Step.{BelowAfter}
 use Rattle.steps.specs.Stop.{picture_after, votes_after}
-use Rattle.steps.specs.Votes.{votes_below, noted}
-use Rattle.workarea.proofs.HeightLaws.{start-many}
-use Rattle.steps.proofs.StartHeights.{below-start}
-use Rattle.steps.proofs.VotePlaces.{below_all, below-le, code-stepped, noted-next}
+use Rattle.steps.specs.Votes.{votes_below}
 use Rattle.steps.proofs.service.take_steps.Given as goal
 
 abbrev pub invariant-loop-done : goal.invariant-loop-done

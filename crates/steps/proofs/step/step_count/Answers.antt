@@ -5,7 +5,6 @@ use Prim.Native.Nat.{ℕ, ◌+◌}
 use native.Mathlib.Omega.{arith}
 use Rattle.published.specs.Start.{step_count}
 use Rattle.workarea.proofs.Sizes.{sizes}
-use borrow.Author.Rules.{rules}
 use Rattle.steps.proofs.step.step_count.Goals as goal
 
 pub overflow_add-result : goal.overflow_add-result

@@ -7,7 +7,6 @@ use Rattle.published.specs.Start.{step_count}
 use Rattle.workarea.proofs.Cells.{still}
 use Rattle.workarea.proofs.Sizes.{sizes, area_of}
 use Rattle.steps.proofs.StepLaws.{vote-zero, assembled}
-use borrow.Author.Rules.{rules}
 use Rattle.steps.proofs.step.take_step.Goals as goal
 
 pub overflow_sub-s : goal.overflow_sub-s
@@ -31,5 +30,5 @@ change_all-requires-clause-area c = still (area_of c.requires.known.0 c.requires
 
 pub returns-clause-by_index : goal.returns-clause-by_index
 returns-clause-by_index c = λ row rest e below.
-          assembled _ _ row _ c.requires.known.0 rest _ _ c.pairs_of-pairs.result _ _ _ _ _ _ (ap (λ (n : ℕ). n - c.args.done) c.start_weight.ensures) c.is_voted-voted.ensures e below
-          c.pairs_of-pairs.ensures.numbers_of c.vote_of-vote.ensures.by_index_2 c.substitute.ensures c.change_all.ensures.becomes_below
+    assembled _ _ row _ c.requires.known.0 rest _ _ c.pairs_of-pairs.result _ _ _ _ _ _ (ap (λ (n : ℕ). n - c.args.done) c.start_weight.ensures) c.is_voted-voted.ensures e below
+    c.pairs_of-pairs.ensures.numbers_of c.vote_of-vote.ensures.by_index_2 c.substitute.ensures c.change_all.ensures.becomes_below

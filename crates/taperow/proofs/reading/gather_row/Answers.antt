@@ -4,7 +4,6 @@ use mathlib.Core.Path.{◌≡◌, sym, ◌∙◌}
 use Prim.Native.Nat.{◌+◌, ◌-◌, ◌*◌}
 use native.Mathlib.Omega.{arith}
 use Rattle.layout.proofs.Reading.{row-part}
-use borrow.Author.Rules.{rules}
 use Rattle.taperow.proofs.reading.gather_row.Goals as goal
 
 pub returns-clause-symbols_after : goal.returns-clause-symbols_after

@@ -2,7 +2,6 @@
 -- Assumes nothing.
 use mathlib.Core.Path.{◌∙◌}
 use Rattle.taperow.proofs.Outcomes.{judged-by, judged-reached}
-use borrow.Author.Rules.{rules}
 use Rattle.taperow.proofs.reading.judge_row.Goals as goal
 
 pub record_of-requires-clause-reached : goal.record_of-requires-clause-reached

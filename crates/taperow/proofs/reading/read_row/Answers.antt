@@ -2,7 +2,6 @@
 -- Assumes nothing.
 use mathlib.Core.Path.{refl}
 use Rattle.taperow.proofs.Tape.{reads-row}
-use borrow.Author.Rules.{rules}
 use Rattle.taperow.proofs.reading.read_row.Goals as goal
 
 pub returns-clause-answered : goal.returns-clause-answered

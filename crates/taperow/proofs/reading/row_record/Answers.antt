@@ -4,7 +4,6 @@ use mathlib.Core.Path.{◌≡◌, ◌∙◌}
 use Prim.Native.Nat.{◌+◌, ◌-◌, ◌*◌}
 use native.Mathlib.Omega.{arith}
 use Rattle.taperow.proofs.Outcomes.{row-judged}
-use borrow.Author.Rules.{rules}
 use Rattle.taperow.proofs.reading.row_record.Goals as goal
 
 pub returns : goal.returns

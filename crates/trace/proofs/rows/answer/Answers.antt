@@ -1,7 +1,6 @@
 -- `trace::rows::answer` meets its contract: what q and u name decides. Assumes nothing.
 use mathlib.Core.Path.{sym, subst, ◌∙◌}
 use native.Mathlib.Omega.{arith}
-use borrow.Author.Rules.{rules}
 use Rattle.lines.specs.Text.{Wrote}
 use Rattle.curve.specs.declared.Code.{Code}
 use Rattle.curve.proofs.Naming.{IsNamed, named-refused, named-code, named-valid}

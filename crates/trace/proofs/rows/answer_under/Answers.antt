@@ -4,7 +4,6 @@ use mathlib.Core.Bool.{not}
 use mathlib.Core.Path.{ap, ◌≡◌, sym, ◌∙◌}
 use native.Mathlib.Omega.{arith}
 use lib.ListN.{length, drop, replicate}
-use borrow.Author.Rules.{rules}
 use borrow.Author.Tests.{not-true, not-false}
 use Rattle.symbols.specs.Sizes.{most_area}
 use Rattle.refusals.specs.declared.Refusal.TheVariants.{WrongLength, NoSymbol}
@@ -51,11 +50,10 @@ returns-then-not-all_symbols c =
 
 pub advance-requires-clause-q_in_bounds : goal.advance-requires-clause-q_in_bounds
 advance-requires-clause-q_in_bounds c = let valid = c.requires.0 in
-    let q = c.args.code.q in
-    (
-        omega (arith, (sizes q valid.known).area),
-        omega (arith, count_small q valid.known, dimension-le q c.args.code.u valid.accepted),
-      )
+    let q = c.args.code.q in (
+      omega (arith, (sizes q valid.known).area),
+      omega (arith, count_small q valid.known, dimension-le q c.args.code.u valid.accepted),
+    )
 
 pub put_lines-requires-clause-q_in_bounds : goal.put_lines-requires-clause-q_in_bounds
 put_lines-requires-clause-q_in_bounds c = let known = c.requires.0.known in

@@ -1,6 +1,5 @@
 -- `trace::rows::put_decoded` meets its contract: each answer has its line.
 -- Assumes nothing.
-use borrow.Author.Rules.{rules}
 use Rattle.trace.specs.Trace.{last_line}
 use Rattle.trace.proofs.rows.put_decoded.Goals as goal
 

@@ -15,7 +15,6 @@ use Rattle.decoder.specs.Decoding.{decoded}
 use Rattle.trace.specs.Trace.{last_line}
 use Rattle.trace.proofs.Checked.{last_line-is}
 use Rattle.trace.proofs.Lengths.{length_last}
-use borrow.Author.Rules.{rules}
 use Rattle.trace.proofs.rows.put_last.Goals as goal
 use Rattle.trace.proofs.rows.put_last.Goals.{After-decode_row-answered}
 
@@ -55,7 +54,7 @@ slice_bounds-put_decoded-end c =
 pub put_decoded-requires : goal.put_decoded-requires
 put_decoded-requires c =
     rw (last (goal.at.put_decoded-requires c).After-decode_row-answered)
-        (omega (arith, c.requires.q_in_bounds.1, length_last c.args.code.q c.args.code.u c.args.row.now c.requires.valid.1.code))
+    (omega (arith, c.requires.q_in_bounds.1, length_last c.args.code.q c.args.code.u c.args.row.now c.requires.valid.1.code))
 
 pub returns : goal.returns
 returns c = rw (last (goal.at.returns c).After-decode_row-answered) at c.put_decoded.ensures

@@ -4,7 +4,6 @@
 use mathlib.Core.List.{[], ◌∷◌}
 use Prim.Native.Nat.{◌+◌, ◌*◌, ◌≤◌}
 use native.Mathlib.Omega.{arith}
-use borrow.Author.Rules.{rules}
 use lib.ListN.{length}
 use Rattle.published.specs.Start.{step_count}
 use Rattle.request.specs.Request.{line}
@@ -44,11 +43,10 @@ put_steps-steps-requires-clause-known c = let known = c.requires.valid.0.known i
 
 pub put_last-requires-clause-q_in_bounds : goal.put_last-requires-clause-q_in_bounds
 put_last-requires-clause-q_in_bounds c = let a = c.args in
-    let lines = c.put_steps-steps.ensures a.row.now c.requires.starts in
-    (
-        omega (arith, c.put_steps-steps.auto.work, c.requires.q_in_bounds.0),
-        omega (arith, rest-fits (goal.at.put_last-requires-clause-q_in_bounds c).After-put_code-first, length-steps a.code.q a.code.u a.row.now (step_count a.code.q), lines.place, c.put_steps-steps.auto.out),
-      )
+    let lines = c.put_steps-steps.ensures a.row.now c.requires.starts in (
+      omega (arith, c.put_steps-steps.auto.work, c.requires.q_in_bounds.0),
+      omega (arith, rest-fits (goal.at.put_last-requires-clause-q_in_bounds c).After-put_code-first, length-steps a.code.q a.code.u a.row.now (step_count a.code.q), lines.place, c.put_steps-steps.auto.out),
+    )
 
 pub returns : goal.returns
 returns c =

@@ -5,7 +5,6 @@ use Prim.Native.Nat.{ℕ, ◌*◌}
 use native.Mathlib.Omega.{arith}
 use Rattle.published.specs.Picture.{area_size}
 use Rattle.workarea.proofs.Sizes.{sizes}
-use borrow.Author.Rules.{rules}
 use Rattle.workarea.proofs.area.area_size.Goals as goal
 
 pub overflow_mul-result : goal.overflow_mul-result

@@ -5,7 +5,6 @@ use mathlib.Core.Logic.{⊎_elim, inl, inr}
 use native.Mathlib.Omega.{arith}
 use Rattle.workarea.proofs.Cells.{row_fits, rows-differ}
 use Rattle.workarea.proofs.RowLaws.{signed, row-law}
-use borrow.Author.Rules.{rules}
 use Rattle.workarea.proofs.area.change_row.Goals as goal
 
 pub change_bytes-requires-clause-count_in_bounds : goal.change_bytes-requires-clause-count_in_bounds

@@ -6,7 +6,6 @@ use native.Mathlib.Omega.{arith}
 use Rattle.workarea.specs.Area.{row_exchanged}
 use Rattle.workarea.proofs.Cells.{row_fits, rows-differ}
 use Rattle.workarea.proofs.RowLaws.{exchange-law, exchange-past}
-use borrow.Author.Rules.{rules}
 use Rattle.workarea.proofs.area.exchange_row.Goals as goal
 
 pub exchange_below-requires : goal.exchange_below-requires

@@ -5,7 +5,6 @@ use Prim.Native.Nat.{ℕ, ◌+◌, ◌*◌}
 use native.Mathlib.Omega.{arith}
 use Rattle.workarea.specs.Area.{row_place}
 use Rattle.workarea.proofs.Sizes.{sizes, row_number-below, row_small}
-use borrow.Author.Rules.{rules}
 use Rattle.workarea.proofs.area.row_place.Goals as goal
 
 pub overflow_mul-result : goal.overflow_mul-result

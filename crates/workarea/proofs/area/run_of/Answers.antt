@@ -1,13 +1,11 @@
 -- Past the width no byte is reached; otherwise those from the shift on, as many as there are to take.
 -- Assumes nothing.
-use mathlib.Core.Path.{refl}
-use mathlib.Core.Logic.{inl, inr}
+use mathlib.Core.Logic.{inr}
 use native.Mathlib.Omega.{arith}
 use Rattle.published.specs.Start.{width}
 use Rattle.workarea.specs.Area.{Counted}
 use Rattle.workarea.proofs.Sizes.{row_small}
 use Rattle.workarea.proofs.HeightLaws.{count}
-use borrow.Author.Rules.{rules}
 use Rattle.workarea.proofs.area.run_of.Goals as goal
 
 pub overflow_add-result : goal.overflow_add-result

@@ -1,9 +1,6 @@
-use mathlib.Core.Path.{◌≡◌, sym}
-use Prim.Native.Nat.{◌-◌, ◌≤◌}
-use lib.ListN.{length, length-set}
-use native.Mathlib.Omega.{arith}
+use mathlib.Core.Path.{sym}
+use lib.ListN.{length-set}
 use Rattle.workarea.proofs.Bytes.{made_none, made_more}
-use Rattle.workarea.specs.Area.{numbers_made, made}
 use borrow.Author.Rules.{rules}
 use Rattle.workarea.proofs.rows.change_bytes.Goals as goal
 
@@ -11,9 +8,8 @@ pub loop-i-init : goal.loop-i-init
 loop-i-init c = (search rules, sym (made_none _ _ _ _ _), search rules)
 
 pub loop-i-preserved : goal.loop-i-preserved
-loop-i-preserved c =
-    (
-      search rules,
-      rw c.sum_or_difference.ensures (made_more _ _ _ _ _ _ _ _ c.requires.fact c.loop-i-test.true c.loop-i.invariant.1),
-      simp length-set c.loop-i.invariant.2,
-    )
+loop-i-preserved c = (
+  search rules,
+  rw c.sum_or_difference.ensures (made_more _ _ _ _ _ _ _ _ c.requires.fact c.loop-i-test.true c.loop-i.invariant.1),
+  simp length-set c.loop-i.invariant.2,
+)

@@ -1,12 +1,9 @@
 -- Each turn stores the next byte of the sum or the difference; what it reads, no turn before has changed.
 -- Assumes nothing.
-use mathlib.Core.Path.{◌≡◌, sym}
+use mathlib.Core.Path.{◌≡◌}
 use Prim.Native.Nat.{◌-◌, ◌≤◌}
-use lib.ListN.{length, length-set}
-use native.Mathlib.Omega.{arith}
-use Rattle.workarea.proofs.Bytes.{made_none, made_more}
+use lib.ListN.{length}
 use Rattle.workarea.specs.Area.{numbers_made, made}
-use borrow.Author.Rules.{rules}
 use Rattle.workarea.proofs.rows.change_bytes.Given as goal
 
 abbrev pub invariant-loop-i : goal.invariant-loop-i

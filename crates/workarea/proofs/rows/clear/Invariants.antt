@@ -1,12 +1,9 @@
 -- The bytes before i are zero, the others as they were.
 -- Assumes nothing.
-use mathlib.Core.Path.{◌≡◌, refl}
+use mathlib.Core.Path.{◌≡◌}
 use mathlib.Core.List.{◌++◌}
 use Prim.Native.Nat.{◌-◌, ◌≤◌}
-use native.Mathlib.Omega.{arith}
-use lib.ListN.{length, length-set, replicate, drop}
-use Rattle.workarea.proofs.Bytes.{cleared_more}
-use borrow.Author.Rules.{rules}
+use lib.ListN.{length, replicate, drop}
 use Rattle.workarea.proofs.rows.clear.Given as goal
 
 abbrev pub invariant-loop-i : goal.invariant-loop-i

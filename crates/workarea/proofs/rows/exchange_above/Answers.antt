@@ -1,9 +1,8 @@
 use mathlib.Core.Path.{◌≡◌, sym}
-use Prim.Native.Nat.{◌+◌, ◌-◌, ◌≤◌}
+use Prim.Native.Nat.{◌+◌, ◌-◌}
 use native.Mathlib.Nat.{sub_self}
 use native.Mathlib.Omega.{arith}
-use lib.ListN.{length, length-set}
-use Rattle.workarea.specs.Area.{exchanged_above}
+use lib.ListN.{length-set}
 use Rattle.workarea.proofs.Bytes.{above-none, above_more}
 use borrow.Author.Rules.{rules}
 use Rattle.workarea.proofs.rows.exchange_above.Goals as goal

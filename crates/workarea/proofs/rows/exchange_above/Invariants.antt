@@ -1,13 +1,9 @@
 -- Each turn exchanges the bytes at the next place below; what it reads, no turn before has changed.
 -- Assumes nothing.
-use mathlib.Core.Path.{◌≡◌, sym}
-use Prim.Native.Nat.{◌+◌, ◌-◌, ◌≤◌}
-use native.Mathlib.Nat.{sub_self}
-use native.Mathlib.Omega.{arith}
-use lib.ListN.{length, length-set}
+use mathlib.Core.Path.{◌≡◌}
+use Prim.Native.Nat.{◌-◌, ◌≤◌}
+use lib.ListN.{length}
 use Rattle.workarea.specs.Area.{exchanged_above}
-use Rattle.workarea.proofs.Bytes.{above-none, above_more}
-use borrow.Author.Rules.{rules}
 use Rattle.workarea.proofs.rows.exchange_above.Given as goal
 
 abbrev pub invariant-loop-i : goal.invariant-loop-i

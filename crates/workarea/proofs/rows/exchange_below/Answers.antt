@@ -1,8 +1,5 @@
-use mathlib.Core.Path.{◌≡◌, sym}
-use Prim.Native.Nat.{◌-◌, ◌≤◌}
-use native.Mathlib.Omega.{arith}
-use lib.ListN.{length, length-set}
-use Rattle.workarea.specs.Area.{exchanged_below}
+use mathlib.Core.Path.{sym}
+use lib.ListN.{length-set}
 use Rattle.workarea.proofs.Bytes.{below_none, below_more}
 use borrow.Author.Rules.{rules}
 use Rattle.workarea.proofs.rows.exchange_below.Goals as goal
@@ -11,9 +8,8 @@ pub loop-i-init : goal.loop-i-init
 loop-i-init c = (search rules, sym (below_none _ _ _ _ _), search rules)
 
 pub loop-i-preserved : goal.loop-i-preserved
-loop-i-preserved c =
-    (
-      search rules,
-      rw c.difference.ensures (below_more _ _ _ _ _ _ _ _ c.requires.fact c.loop-i-test.true c.loop-i.invariant.1),
-      simp length-set c.loop-i.invariant.2,
-    )
+loop-i-preserved c = (
+  search rules,
+  rw c.difference.ensures (below_more _ _ _ _ _ _ _ _ c.requires.fact c.loop-i-test.true c.loop-i.invariant.1),
+  simp length-set c.loop-i.invariant.2,
+)

@@ -1,12 +1,9 @@
 -- Each turn exchanges the bytes at the next place; what it reads, no turn before has changed.
 -- Assumes nothing.
-use mathlib.Core.Path.{◌≡◌, sym}
+use mathlib.Core.Path.{◌≡◌}
 use Prim.Native.Nat.{◌-◌, ◌≤◌}
-use native.Mathlib.Omega.{arith}
-use lib.ListN.{length, length-set}
+use lib.ListN.{length}
 use Rattle.workarea.specs.Area.{exchanged_below}
-use Rattle.workarea.proofs.Bytes.{below_none, below_more}
-use borrow.Author.Rules.{rules}
 use Rattle.workarea.proofs.rows.exchange_below.Given as goal
 
 abbrev pub invariant-loop-i : goal.invariant-loop-i
