@@ -20,7 +20,7 @@ use Rattle.stepline.specs.StepLine.{step_size}
 use Rattle.steplines.proofs.Lengths.{length-steps}
 use Rattle.steplines.proofs.Walked.{Reached, weight_is, next-state, reached-more}
 use Rattle.steplines.proofs.put_steps.Goals as goal
-use Rattle.steplines.proofs.put_steps.Goals.{After-heights-1, After-start_heights-heights, After-take_step-vote, At-loop-t}
+use Rattle.steplines.proofs.put_steps.Goals.{After-take_step-vote, At-loop-t}
 
 -- the lines of t steps fit, and one more where one more is due
 lines_fit : (c : At-loop-t) (row : List ℕ)
@@ -68,7 +68,7 @@ pub put_step_line-next-requires-clause-area : goal.put_step_line-next-requires-c
 put_step_line-next-requires-clause-area c = let a = c.args in
     let begun = c.requires.started in
     let weight = weight_is a.q c.loop-t.t c.step_count-count.ensures in
-    let after = next-state a.q a.u begun.row c.loop-t.t _ (step-due (goal.at.put_step_line-next-requires-clause-area c).After-heights-1) weight (c.loop-t.invariant.5 begun.row begun.shows)
+    let after = next-state a.q a.u begun.row c.loop-t.t _ (step-due (goal.at.put_step_line-next-requires-clause-area c).After-take_step-vote) weight (c.loop-t.invariant.5 begun.row begun.shows)
     c.take_step-vote.ensures.by_index in
     area_of c.requires.known.0 (omega (arith, c.requires.known.1, c.loop-t.invariant.2, c.take_step-vote.auto.work))
 
@@ -76,15 +76,15 @@ pub put_step_line-next-requires-clause-s_bound : goal.put_step_line-next-require
 put_step_line-next-requires-clause-s_bound c = let a = c.args in
     let begun = c.requires.started in
     let weight = weight_is a.q c.loop-t.t c.step_count-count.ensures in
-    let after = next-state a.q a.u begun.row c.loop-t.t _ (step-due (goal.at.put_step_line-next-requires-clause-s_bound c).After-heights-1) weight (c.loop-t.invariant.5 begun.row begun.shows)
+    let after = next-state a.q a.u begun.row c.loop-t.t _ (step-due (goal.at.put_step_line-next-requires-clause-s_bound c).After-take_step-vote) weight (c.loop-t.invariant.5 begun.row begun.shows)
     c.take_step-vote.ensures.by_index in
-    (omega (arith, weight), line-fits (goal.at.put_step_line-next-requires-clause-s_bound c).After-start_heights-heights (step-due (goal.at.put_step_line-next-requires-clause-s_bound c).After-heights-1))
+    (omega (arith, weight), line-fits (goal.at.put_step_line-next-requires-clause-s_bound c).At-loop-t (step-due (goal.at.put_step_line-next-requires-clause-s_bound c).After-take_step-vote))
 
 pub put_step_line-next-requires-clause-shown : goal.put_step_line-next-requires-clause-shown
 put_step_line-next-requires-clause-shown c = let a = c.args in
     let begun = c.requires.started in
     let weight = weight_is a.q c.loop-t.t c.step_count-count.ensures in
-    let after = next-state a.q a.u begun.row c.loop-t.t _ (step-due (goal.at.put_step_line-next-requires-clause-shown c).After-heights-1) weight (c.loop-t.invariant.5 begun.row begun.shows)
+    let after = next-state a.q a.u begun.row c.loop-t.t _ (step-due (goal.at.put_step_line-next-requires-clause-shown c).After-take_step-vote) weight (c.loop-t.invariant.5 begun.row begun.shows)
     c.take_step-vote.ensures.by_index in
     record { state = _; shows = after.0; voted = after.1 }
 
@@ -96,7 +96,7 @@ loop-t-preserved c =
       c.take_step-vote.auto.work ∙ c.loop-t.invariant.2,
       c.take_step-vote.ensures.heights_2,
       c.take_step-vote.auto.heights ∙ c.loop-t.invariant.4,
-      λ row shows. reached-more a.q a.u row c.loop-t.t _ (step-due (goal.at.loop-t-preserved c).After-heights-1)
-          (weight_is a.q c.loop-t.t c.step_count-count.ensures) (lines_fit (goal.at.loop-t-preserved c).After-start_heights-heights row) (c.loop-t.invariant.5 row shows)
+      λ row shows. reached-more a.q a.u row c.loop-t.t _ (step-due (goal.at.loop-t-preserved c).After-take_step-vote)
+          (weight_is a.q c.loop-t.t c.step_count-count.ensures) (lines_fit (goal.at.loop-t-preserved c).At-loop-t row) (c.loop-t.invariant.5 row shows)
           c.take_step-vote.ensures.by_index c.put_step_line-next.ensures,
     )
