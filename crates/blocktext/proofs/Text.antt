@@ -31,25 +31,18 @@ use Rattle.blocktext.specs.Report.{record_lines, verdict_line, rows_told}
 use Rattle.rowlines.proofs.Joined.{join-same}
 use Rattle.blocktext.proofs.RecordBytes.{state-of, count_of}
 
--- the tag of Refused is none of the others'
-no_other_tag : OneOf (0 ∷ 1 ∷ 2 ∷ []) 3 → ⊥
-no_other_tag tag = ⊎_elim (λ e. omega arith) (λ later. ⊎_elim (λ e. omega arith) (λ e. omega arith) later) tag
-
 -- a refusal has no rows told
-pub told_none : (v : Verified) (payload : ℕ) → tag_of the_type v ≡ 3 → 0 ≡ rows_told v payload
+pub told_none : (why : Refusal) (payload : ℕ) → 0 ≡ rows_told (Refused why) payload
 unfolding rows_told
-told_none (Copied total) payload tag = absurd (omega (arith, tag))
-told_none (Differs r) payload tag = absurd (omega (arith, tag))
-told_none (Unreadable r) payload tag = absurd (omega (arith, tag))
-told_none (Refused why) payload tag = refl
+told_none why payload = refl
 
 -- any other verdict has them all
-pub told-others : (v : Verified) (payload : ℕ) → OneOf (0 ∷ 1 ∷ 2 ∷ []) (tag_of the_type v) → payload / 20 ≡ rows_told v payload
+pub told-others : (v : Verified) (payload : ℕ) → ((why : Refusal) → v ≡ Refused why → ⊥) → payload / 20 ≡ rows_told v payload
 unfolding rows_told
-told-others (Copied total) payload tag = refl
-told-others (Differs r) payload tag = refl
-told-others (Unreadable r) payload tag = refl
-told-others (Refused why) payload tag = absurd (no_other_tag tag)
+told-others (Copied total) payload done = refl
+told-others (Differs r) payload done = refl
+told-others (Unreadable r) payload done = refl
+told-others (Refused why) payload done = absurd (done why refl)
 
 -- a verdict on rows is no refusal: one row, by its two tests
 told-by : (p r : ℕ) (zero one : Bool) (equal : Verified) → rows_told equal p ≡ p / 20
