@@ -8,29 +8,14 @@ use Rattle.answers.specs.declared.Written.TheVariants.{Length, Refused}
 use Rattle.block.proofs.Writes.{told-length}
 use Rattle.results.specs.Results.{write_result, LengthFits}
 use Rattle.results.proofs.Signed.{returned}
-use Rattle.tape.proofs.tape_write.Statement.{statement}
-use Rattle.tape.proofs.tape_write.Tie as tie
+use Rattle.tape.proofs.tape_write.Goals as goal
 
 -- a length that is told is small
 small-fits : (answer : Written) → ((bytes : ℕ) → answer ≡ Length bytes → bytes ≤ 32776) → LengthFits answer
 small-fits (Length bytes) small = omega (arith, small bytes refl)
 small-fits (Refused why) small = tt
 
-write-requires : tie.Need-write-requires
-write-requires c κs = search rules
-
-of-writing-requires : tie.Need-of-writing-requires
-of-writing-requires c κs =
-    let wrote = c.before.before.write in
-    small-fits wrote.result (λ n is. (told-length _ _ n (sym wrote.ensures.0 ∙ is)).0)
-
-same_length : tie.Need-same-length
-same_length c = search rules
-
-returns : tie.Need-returns
-returns c =
-    let wrote = c.before.before.before.write.ensures in
-    (returned c.of-writing.type-inv ∙ c.of-writing.ensures ∙ ap write_result wrote.0, wrote.1.0)
-
-pub tape-write-spec : {M : Type 1} → statement M
-tape-write-spec = tie.close (tie.spec write-requires of-writing-requires same_length returns)
+pub of_writing-requires : goal.of_writing-requires
+of_writing-requires c =
+    let wrote = c.write-answer in
+    small-fits wrote.result (λ n is. (told-length _ _ n (sym wrote.ensures.answered ∙ is)).0)

@@ -1,0 +1,12 @@
+-- `tape_decode` meets its contract: it passes decoding's answer on as an integer. Assumes nothing.
+use borrow.Author.Rules.{rules}
+use mathlib.Core.Path.{sym, ap, subst, ◌∙◌}
+use Rattle.results.specs.Results.{decode_result, CountFits}
+use Rattle.results.proofs.Signed.{returned}
+use Rattle.tape.proofs.Counts.{answer-fits}
+use Rattle.tape.proofs.tape_decode.Goals as goal
+
+pub of_decoding-requires : goal.of_decoding-requires
+of_decoding-requires c =
+    subst CountFits (sym c.decode-answer.ensures.answered)
+    (answer-fits _ _ _ _ _ _)
