@@ -1,4 +1,4 @@
-use Rattle.std.proofs.Common.{◌≡◌, length, arith}
+use Rattle.std.proofs.Common.{◌≡◌, length, arith, rules}
 use Rattle.textlines.proofs.Reading.{line_from, line-newline, line-goes-on, line-none}
 use Rattle.textlines.proofs.line_end.Goals as goal
 
@@ -8,7 +8,7 @@ returns-then-text-i-eq10-clause-line c =
 
 pub loop-i-preserved : goal.loop-i-preserved
 loop-i-preserved c =
-    let goes_on = line-goes-on c.args.text.now c.loop-i.i c.loop-i-test.true c.if-text-i-eq10.false in
+    let goes_on = line-goes-on c.args.text.now c.loop-i.i c.loop-i-test.true (search rules) in
     record {
       from_start = omega arith;
       within = omega arith;
