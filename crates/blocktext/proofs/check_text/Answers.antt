@@ -37,17 +37,17 @@ unfolding check_text
 returns-clause-text c = let text = text-is _ _ (replicate 2048 0) (replicate 1472 0) _ _ c.verify_bytes-verdict.ensures.answered
     c.verify_bytes-verdict.ensures.records_left in
     text-written (rw (← c.rows_told-rows.ensures) at text)
-          (omega (arith, rows_end (goal.at.returns-clause-text c).After-put_rows-end, c.put_rows-arg-1.given.0.1)) c.put_rows-end.ensures.wrote
-          c.put_verdict.ensures.wrote
+    (omega (arith, rows_end (goal.at.returns-clause-text c).After-put_rows-end, c.put_rows-arg-1.given.0.1)) c.put_rows-end.ensures.wrote
+    c.put_verdict.ensures.wrote
 
 pub returns-clause-within : goal.returns-clause-within
 unfolding check_text
 returns-clause-within c = let text = text-is _ _ (replicate 2048 0) (replicate 1472 0) _ _ c.verify_bytes-verdict.ensures.answered
     c.verify_bytes-verdict.ensures.records_left in
     prefix_len_of_le _ _ (omega (
-        arith,
-        rows_end (goal.at.returns-clause-within c).After-put_rows-end,
-        c.put_verdict.ensures.upper_bound,
-        c.put_verdict.auto.out,
-        c.put_verdict-arg-1.given.0.1,
-      ))
+      arith,
+      rows_end (goal.at.returns-clause-within c).After-put_rows-end,
+      c.put_verdict.ensures.upper_bound,
+      c.put_verdict.auto.out,
+      c.put_verdict-arg-1.given.0.1,
+    ))

@@ -19,6 +19,6 @@ returns-in-Unreadable-clause-wrote c = rw c.in-Unreadable.is c.put_line-in-Unrea
 pub returns-in-Refused-clause-wrote : goal.returns-in-Refused-clause-wrote
 unfolding verdict_line ascii
 returns-in-Refused-clause-wrote c = rw (
-        c.in-Refused.is,
-        ← c.number_of.ensures,
-      ) c.put_line-in-Refused.ensures.wrote
+  c.in-Refused.is,
+  ← c.number_of.ensures,
+) c.put_line-in-Refused.ensures.wrote
