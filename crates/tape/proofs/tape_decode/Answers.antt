@@ -1,8 +1,6 @@
 -- `tape_decode` meets its contract: it passes decoding's answer on as an integer. Assumes nothing.
-use borrow.Author.Rules.{rules}
-use mathlib.Core.Path.{sym, ap, subst, ◌∙◌}
-use Rattle.results.specs.Results.{decode_result, CountFits}
-use Rattle.results.proofs.Signed.{returned}
+use mathlib.Core.Path.{sym, subst}
+use Rattle.results.specs.Results.{CountFits}
 use Rattle.tape.proofs.Counts.{answer-fits}
 use Rattle.tape.proofs.tape_decode.Goals as goal
 

@@ -1,13 +1,11 @@
 -- `tape_write` meets its contract: it passes the answer of writing on as an integer. Assumes nothing.
-use borrow.Author.Rules.{rules}
-use mathlib.Core.Path.{◌≡◌, refl, sym, ap, ◌∙◌}
+use mathlib.Core.Path.{◌≡◌, refl, sym, ◌∙◌}
 use Prim.Native.Nat.{ℕ, ◌≤◌}
 use native.Mathlib.Omega.{arith}
 use Rattle.answers.specs.declared.Written.{Written}
 use Rattle.answers.specs.declared.Written.TheVariants.{Length, Refused}
 use Rattle.block.proofs.Writes.{told-length}
-use Rattle.results.specs.Results.{write_result, LengthFits}
-use Rattle.results.proofs.Signed.{returned}
+use Rattle.results.specs.Results.{LengthFits}
 use Rattle.tape.proofs.tape_write.Goals as goal
 
 -- a length that is told is small
