@@ -4,13 +4,13 @@
 ghost use Rattle.std.specs.Prelude.{◌≡◌, ◌+◌, ◌*◌, ◌<◌, ◌≤◌};
 ghost use Rattle.symbols.specs.Sizes.{most_shift};
 ghost use Rattle.symbols.specs.Rule.{Known};
-ghost use Rattle.workarea.specs.Heights.{Heights, larger as Heights·larger, height_of_sum, heights_added, heights_exchanged, AtStart};
+ghost use Rattle.workarea.specs.Heights.{Heights, larger as larger_of, height_of_sum, heights_added, heights_exchanged, AtStart};
 
 use symbols::MOST_POLYNOMIALS;
 
 // The larger of two numbers.
 fn larger(a: usize, b: usize) -> usize
-    ensures { result ≡ Heights·larger a b }
+    ensures { result ≡ larger_of a b }
 {
     if a <= b { b } else { a }
 }

@@ -5,7 +5,7 @@
 ghost use Rattle.std.specs.Prelude.{map, ◌≡◌, ◌-◌, ◌≤◌, ◌<◌, length, take, drop};
 ghost use Rattle.asking.specs.Request.{ends_number, numbers_from, as_byte, reading, Means};
 ghost use Rattle.request.specs.Reader.{saying, count_in, FoundIn};
-ghost use Rattle.asking.specs.Request.{grown as Request·grown};
+ghost use Rattle.asking.specs.Request.{grown as grown_by};
 
 use requesttext::is_text_of;
 
@@ -44,7 +44,7 @@ fn digit_of(byte: u8) -> usize
 // A number of at most three digits with one more digit: of four the first is lost.
 fn grown(value: usize, byte: u8) -> usize
     requires { value < 1000 }
-    ensures { (result ≡ Request·grown value byte) × (result < 1000) }
+    ensures { (result ≡ grown_by value byte) × (result < 1000) }
 {
     (value * 10 + digit_of(byte)) % 1000
 }

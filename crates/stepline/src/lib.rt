@@ -10,7 +10,7 @@ ghost use Rattle.lines.specs.Text.{Wrote};
 ghost use Rattle.published.specs.Steps.{State};
 ghost use Rattle.stepline.specs.StepLine.{step_size};
 ghost use Rattle.stepline.specs.StepLine.{step_line};
-ghost use Rattle.stepline.specs.StepLine.{degrees as StepLines·degrees};
+ghost use Rattle.stepline.specs.StepLine.{degrees as degrees_of};
 ghost use Rattle.stepline.specs.StepLine.{vote_at};
 ghost use Rattle.stepline.specs.Shown.{Shown};
 ghost use Rattle.stepline.specs.Shown.{leader as leader_of};
@@ -32,7 +32,7 @@ fn leader(q: usize, r: usize) -> usize
 pub fn read_degrees(work: &[u8], q: usize, degrees: &mut [u8])
     requires area { Area q (length work.now) }
     requires q_in_bounds { 2 * q ≤ length degrees.old }
-    ensures { (S : Polynomials (symbols q) q) → Starts q work.now (cells_of q S) → take (2 * q) degrees.new ≡ StepLines·degrees q S }
+    ensures { (S : Polynomials (symbols q) q) → Starts q work.now (cells_of q S) → take (2 * q) degrees.new ≡ degrees_of q S }
 {
     for r in 0..2 * q {
         let leading = leading_of(work, q, leader(q, r), r);

@@ -7,7 +7,7 @@ ghost use Rattle.workarea.specs.Area.{Starts, cells_of};
 ghost use Rattle.steps.specs.Stop.{state_after};
 ghost use Rattle.voting.specs.Voting.{voted};
 ghost use Rattle.decoder.specs.Decoding.{decoded};
-ghost use Rattle.trace.specs.Trace.{last_line, row_lines, answer as Trace·answer};
+ghost use Rattle.trace.specs.Trace.{last_line, row_lines, answer as answer_lines};
 ghost use Rattle.trace.specs.Size.{last_size, trace_size, longest_trace};
 
 use answers::Decoded;
@@ -60,7 +60,7 @@ fn put_lines(out: &mut [u8], code: Code, row: &[u8], work: &mut [u8]) -> usize
 // The answer under a code: refused with 4 or 5, or all lines, from the start that no step makes.
 fn answer_under(out: &mut [u8], code: Code, row: &[u8]) -> usize
     requires { Valid code × (longest_trace ≤ length out.old) }
-    ensures { Wrote out.old 0 (Trace·answer code.q code.u row.now) out.new result }
+    ensures { Wrote out.old 0 (answer_lines code.q code.u row.now) out.new result }
 {
     if row.len() != code.n {
         return put_refusal(out, 0, Refusal::WrongLength);
@@ -77,7 +77,7 @@ fn answer_under(out: &mut [u8], code: Code, row: &[u8]) -> usize
 // What is printed for q, u and a row.
 pub fn answer(out: &mut [u8], q: usize, u: usize, row: &[u8]) -> usize
     requires { longest_trace ≤ length out.old }
-    ensures { Wrote out.old 0 (Trace·answer q u row.now) out.new result }
+    ensures { Wrote out.old 0 (answer_lines q u row.now) out.new result }
 {
     match curve::code_of(q, u) {
         Named::Code(code) => answer_under(out, code, row),

@@ -3,7 +3,7 @@ ghost use Rattle.std.specs.Prelude.{◌≡◌, ◌+◌, ◌*◌, ◌<◌, length
 ghost use Rattle.symbols.specs.Rule.{Known, Sym};
 ghost use Rattle.published.specs.Start.{width};
 ghost use Rattle.published.specs.Picture.{area_size};
-ghost use Rattle.workarea.specs.Heights.{smaller as Heights·smaller};
+ghost use Rattle.workarea.specs.Heights.{smaller as smaller_of};
 ghost use Rattle.workarea.specs.Area.{Area, TwoRows, Reach, row_place, Turns, Multiplies, symbols_made, row_made, row_exchanged};
 
 use crate::rows;
@@ -48,7 +48,7 @@ pub fn row_place(q: usize, p: usize, r: usize) -> usize
 
 // The smaller of two numbers.
 pub fn smaller(a: usize, b: usize) -> usize
-    ensures { result ≡ Heights·smaller a b }
+    ensures { result ≡ smaller_of a b }
 {
     if a <= b { a } else { b }
 }
