@@ -1,13 +1,14 @@
 -- From the votes to the answer: the votes are a message, its row is what is judged, and the judgement is what is answered and
 -- what is written.
 -- Assumes nothing.
-use mathlib.Core.Path.{◌≡◌, refl, sym, ap, ◌∙◌}
+use mathlib.Core.Path.{◌≡◌, refl, sym, ap, ap₂, ◌∙◌}
 use mathlib.Core.Bool.{Bool, true, false}
 use mathlib.Core.List.{List, ◌++◌}
 use Prim.Native.Nat.{ℕ, ◌≤◌, ◌<◌}
 use native.Mathlib.Omega.{arith}
 use lib.Dec.{leb}
 use lib.ListN.{length, take, drop, length-take}
+use lib.Seq.{take_all}
 use borrow.Author.Tests.{le-leb, lt-leb}
 use Rattle.refusals.specs.declared.Refusal.TheVariants.{BeyondReach}
 use Rattle.curve.specs.Codes.{point_count, dimension, reach}
@@ -41,6 +42,10 @@ module _ (q u : ℕ) (message row : List ℕ) where
   refused-is : reach q u < count_of q u message row → judgement q u message row ≡ Refused BeyondReach
   unfolding verdict
   refused-is h = judged-by-reach ∙ ap (verdict (count_of q u message row)) (lt-leb (count_of q u message row) (reach q u) h)
+
+-- all of a list that was copied, before what stays
+copied : (front old : List ℕ) (n : ℕ) → length front ≡ n → take (length front) front ++ drop (length front) old ≡ front ++ drop n old
+copied front old n e = ap₂ (λ l m. l ++ drop m old) (take_all (length front) front (omega arith)) e
 
 -- the votes of a row stand in the first k places of a list
 pub record Voted (q u : ℕ) (row votes : List ℕ) (k : ℕ) : Type 0 where

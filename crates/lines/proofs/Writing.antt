@@ -77,6 +77,14 @@ wrote-settled done done' = (done.buffer ∙ sym done'.buffer, done.place ∙ sym
 pub wrote-length : {l m a : List ℕ} {at next : ℕ} → at + length a ≤ length l → Wrote l at a m next → length m ≡ length l
 wrote-length {l} {m} {a} {at} {next} fits done = ap length done.buffer ∙ written-length l at a fits
 
+-- room for two texts is room for the first, and then for the second
+pub room-first : (at : ℕ) (a b : List ℕ) {n : ℕ} → at + length (a ++ b) ≤ n → at + length a ≤ n
+room-first at a b fits = omega (arith, length-append a b)
+
+pub room_after : {l m a : List ℕ} {at next : ℕ} (b : List ℕ) → at + length (a ++ b) ≤ length l → Wrote l at a m next → next + length b ≤ length m
+room_after {l} {m} {a} {at} {next} b fits done =
+    omega (arith, length-append a b, done.place, wrote-length (room-first at a b fits) done)
+
 -- a text written at a buffer's start is its front
 pub wrote-front : {l m text : List ℕ} {next : ℕ} → Wrote l 0 text m next → take next m ≡ text
 unfolding written

@@ -222,3 +222,6 @@ module _ (z : ℤ) (h : nat_abs z ≤ most_shift) (d : Unraised z) where
 
   pub minus-value : to_z w64 (of_z w64 (pos 0 -ℤ to_z w64 (of_z w64 z))) ≡ pos (negative_part z)
   minus-value = to_z-of_z w64 _ minus-fits ∙ minus_is
+
+  pub minus-cast : T (non_neg (to_z w64 (of_z w64 (pos 0 -ℤ to_z w64 (of_z w64 z))))) × Fits w64 (nat_abs (to_z w64 (of_z w64 (pos 0 -ℤ to_z w64 (of_z w64 z)))))
+  minus-cast = rw minus-value (tt, omega (arith, d.small))

@@ -1,1 +1,2 @@
+mod Searching
 pub mod Meaning

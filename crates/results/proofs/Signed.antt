@@ -3,9 +3,14 @@ use mathlib.Core.Path.{◌≡◌, sym, ap, subst, ◌∙◌}
 use Prim.Native.Nat.{ℕ, zero, suc, ◌<◌, ◌^◌}
 use native.Mathlib.Omega.{arith}
 use lib.IntN.{ℤ, pos, neg_ℤ, ◌-ℤ◌, +ℤ_idl}
+use lib.Signed.{mag}
 use mir.Syntax.{w64}
 use mir.Val.{hbits, SFits, to_z, of_z}
 use mir.Facts.{to_z-of_z, to_z_pos}
+
+-- an integer that fits its type is read from the word as it was written
+pub returned : {z : ℤ} → mag z < 2 ^ hbits w64 → to_z w64 (of_z w64 z) ≡ z
+returned fits = to_z-of_z {w = w64} (record { sfits = fits })
 
 -- minus a small number fits
 minus-fits : (n : ℕ) → n < 2 ^ hbits w64 → SFits w64 (neg_ℤ (pos n))

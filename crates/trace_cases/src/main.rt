@@ -3,11 +3,14 @@
 #![tactic(auto)]
 
 use std::fs::File;
-use std::rt::Files;
-use std::{env, io};
+use std::rt::{Env, Files};
+use std::{io, str};
 
-// One text: the file of a name.
-fn print_case<R: Files + Print + Eprint>(rt: &R, name: &str) -> io::Result<()> {
+// One text: the file that argument i names.
+fn print_case<R: Env + Files + Print + Eprint>(rt: &R, i: usize) -> io::Result<()> {
+    let mut name = [0u8; 64];
+    let length = rt.arg(i, &mut name).unwrap_or(0);
+    let name = str::from_utf8(&name[..length]).unwrap_or("");
     let mut file = match File::open(rt, name) {
         Ok(file) => file,
         Err(why) => return eprintln!(rt; "{name}: {why}"),
@@ -17,11 +20,10 @@ fn print_case<R: Files + Print + Eprint>(rt: &R, name: &str) -> io::Result<()> {
 }
 
 fn main(rt: HostRuntime) -> io::Result<()> {
-    let names = env::args(&rt)?.collect::<Vec<String>>(rt.alloc())?;
-    let count = names.len();
+    let count = files::word_count(&rt);
     let mut i = 1;
     while i < count {
-        print_case(&rt, names[i].as_str())?;
+        print_case(&rt, i)?;
         i += 1;
     }
     Ok(())

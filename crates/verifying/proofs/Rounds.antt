@@ -9,7 +9,7 @@ use native.Mathlib.Nat.{zero-add, add-zero}
 use native.Mathlib.Numerals.{add-one}
 use native.Mathlib.Omega.{arith}
 use lib.Dec.{eqb}
-use lib.ListN.{length, drop, replicate, length-replicate}
+use lib.ListN.{length, drop, replicate, length-append, length-replicate, length-drop}
 use lib.Seq.{drop_at}
 use Rattle.refusals.specs.declared.Refusal.{Refusal}
 use Rattle.refusals.specs.Numbers.{Check, first_of}
@@ -39,6 +39,17 @@ cleared-again : (n : ℕ) (l : List ℕ) → cleared n (cleared n l) ≡ cleared
 unfolding cleared
 cleared-again n l = ap (λ (rest : List ℕ). replicate n 0 ++ rest) (drop_at (replicate n 0) (drop n l) n (length-replicate n 0))
 
+-- clearing keeps the length
+length-cleared : (n : ℕ) (l : List ℕ) → n ≤ length l → length (cleared n l) ≡ length l
+unfolding cleared
+length-cleared n l fits =
+    omega (arith, length-append (replicate n 0) (drop n l), length-replicate {A = ℕ} n 0, length-drop n l)
+
+-- no row
+pub worked-none : (work : List ℕ) → worked 0 work ≡ work
+unfolding worked
+worked-none work = refl
+
 -- one row more
 pub worked-next : (k : ℕ) (work : List ℕ) → cleared (area_size tape_q) (worked k work) ≡ worked (k + 1) work
 unfolding worked
@@ -49,6 +60,11 @@ worked-next (suc k) work = rw (add-one (suc k)) (cleared-again (area_size tape_q
 unfoldable pub after : Verified → (ℕ → Record) → ℕ → Verified
 after v f zero = v
 after v f (suc k) = next_verdict (after v f k) k (f k)
+
+-- no row
+pub after_none : (v : Verified) (f : ℕ → Record) → after v f 0 ≡ v
+unfolding after
+after_none v f = refl
 
 -- one row more
 pub after_next : (v : Verified) (f : ℕ → Record) (k : ℕ) → after v f (k + 1) ≡ next_verdict (after v f k) k (f k)
@@ -176,6 +192,13 @@ module _ (block payload : List ℕ) (records work : ℕ) where
       })
       (decide_checks checks)
 
+  -- no more rows are read than there are records
+  pub rows_fit : rows_read ≤ records
+  rows_fit =
+      ⊎_elim (λ refusing. omega (arith, none_read refusing.0 refusing.1))
+      (λ passing. omega (arith, all_read passing, (fit block payload records work passing).enough))
+      (decide_checks checks)
+
   -- what is so after the rows read is what the call gives
   pub ends-in : {A : Type 0} (at : ℕ → A) (refuse : Refusal → A) (otherwise : A)
       → ((why : Refusal) → verdict_before block payload records work ≡ Refused why → at 0 ≡ refuse why)
@@ -193,3 +216,11 @@ module _ (block payload : List ℕ) (records work : ℕ) where
       ∙ all (passed Refused (Copied 0) passing) (fit block payload records work passing).some
       ∙ sym (passed refuse otherwise passing))
       (decide_checks checks)
+
+-- after any row the work area is as long as it was
+pub work-kept : (block payload : List ℕ) (records : ℕ) (work : List ℕ) (k : ℕ)
+    → k ≤ rows_read block payload records (length work) → length (worked k work) ≡ length work
+unfolding worked
+work-kept block payload records work zero within = refl
+work-kept block payload records work (suc k) within =
+    length-cleared (area_size tape_q) work (ready block payload records (length work) k within).room

@@ -2,9 +2,9 @@
 -- Assumes nothing.
 use mathlib.Core.Path.{◌≡◌, ap, ap₂, ◌∙◌}
 use mathlib.Core.List.{List, ◌++◌}
-use Prim.Native.Nat.{ℕ, ◌*◌}
+use Prim.Native.Nat.{ℕ, ◌*◌, ◌≤◌}
 use native.Mathlib.Omega.{arith}
-use lib.ListN.{length, drop, replicate}
+use lib.ListN.{length, drop, replicate, length-append}
 use lib.Seq.{drop_at}
 use Rattle.lists.proofs.Grid.{grid, length-grid}
 use Rattle.symbols.specs.Rule.{symbols}
@@ -26,6 +26,10 @@ picture-length q u row t =
 
 module _ (q u : ℕ) (row : List ℕ) (t : ℕ) (work work' : List ℕ) (n : ℕ) (size : n ≡ area_size q)
     (left : work' ≡ picture_after q u row t ++ drop (area_size q) work) where
+  -- an area with a picture has room for it
+  pub picture-room : n ≤ length work'
+  picture-room = omega (arith, size, ap length left ∙ length-append (picture_after q u row t) (drop (area_size q) work), picture-length q u row t)
+
   -- and none of it is left when the area is cleared
   pub picture-cleared : (work'' : List ℕ) → work'' ≡ cleared n work' → work'' ≡ cleared (area_size q) work
   picture-cleared work'' e =

@@ -213,8 +213,8 @@ module _ {𝓢 : Symbols} {q : ℕ} (𝓛 : Laws 𝓢 q) (xs ys : ℕ → 𝓢.K
       enough = n + suc q
 
       -- no point yet: the powers of y
-      none : All enough 0
-      none = record {
+      none : (W : ℕ) → All W 0
+      none W = record {
         of = λ i. record {
           e = 0;
           ε = monomial 𝓢 q i 0;
@@ -227,12 +227,12 @@ module _ {𝓢 : Symbols} {q : ℕ} (𝓛 : Laws 𝓢 q) (xs ys : ℕ → 𝓢.K
       }
 
       -- the first m points
-      after-points : (m : ℕ) → m + q ≤ enough → All enough m
-      after-points zero h = none
-      after-points (suc m) h =
-          let rs = after-points m (omega arith) in
-          next enough m h rs (find 𝓛 (value enough m h rs) (λ i. weight q i (rs.of i).e) q) (agrees m) refl
+      after-points : (W m : ℕ) → m + q ≤ W → All W m
+      after-points W zero h = none W
+      after-points W (suc m) h =
+          let rs = after-points W m (omega arith) in
+          next W m h rs (find 𝓛 (value W m h rs) (λ i. weight q i (rs.of i).e) q) (agrees m) refl
 
       -- the first n points
       rs : All enough n
-      rs = after-points n (omega arith)
+      rs = after-points enough n (omega arith)

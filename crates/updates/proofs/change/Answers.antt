@@ -20,12 +20,8 @@ returns-then-w-vote-clause-becomes_below c = λ S ω P ev n below.
     record { becomes = becomes-same _ S _ same; below = rw same below }
 
 pub returns-then-c-gt0-clause-heights_2 : goal.returns-then-c-gt0-clause-heights_2
-returns-then-c-gt0-clause-heights_2 c = let known = c.requires.area.known in
-    let held = c.requires.i_lt_q.1 in
+returns-then-c-gt0-clause-heights_2 c = let held = c.requires.i_lt_q.1 in
     let hi = c.requires.i_lt_q.0 in
-    let z = c.args.pair.c in
-    let e = back z held.c in
-    let up = positive-yes z (rw e at c.if-c-gt0.true) in
     rw c.exchange_heights.ensures (heights-exchanged _ _ _ _ _ c.requires.heights (omega (arith, hi)) (omega (arith, held.partner)))
 
 pub returns-then-c-gt0-clause-becomes_below : goal.returns-then-c-gt0-clause-becomes_below
@@ -45,11 +41,7 @@ returns-then-c-gt0-clause-becomes_below c = let known = c.requires.area.known in
     (changed-raised _ known S ω _ P (λ d. c.if-w-vote.false (n.w ∙ d ∙ sym ev)) (rw n.c at up.1) few)
 
 pub returns-clause-heights_2 : goal.returns-clause-heights_2
-returns-clause-heights_2 c = let known = c.requires.area.known in
-    let held = c.requires.i_lt_q.1 in
-    let hi = c.requires.i_lt_q.0 in
-    let z = c.args.pair.c in
-    let down = positive-no z (rw (back z held.c) at c.if-c-gt0.false) in
+returns-clause-heights_2 c = let hi = c.requires.i_lt_q.0 in
     rw c.add_heights.ensures (heights-added _ _ _ _ _ c.requires.heights (omega (arith, hi)))
 
 pub returns-clause-becomes_below : goal.returns-clause-becomes_below
