@@ -1,3 +1,4 @@
+-- `curve::dimension` meets its contract: the goals that the check leaves open. Assumes nothing.
 use mathlib.Core.Bool.{not}
 use mathlib.Core.Path.{ap, ◌≡◌, sym, ◌∙◌}
 use Prim.Native.Nat.{◌+◌}

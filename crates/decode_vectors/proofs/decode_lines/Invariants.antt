@@ -1,3 +1,4 @@
+-- `decode_vectors::decode_lines` meets its contract: the loop's invariant and measure. Assumes nothing.
 use Rattle.std.proofs.Common.{length, ◌-◌, ◌≤◌}
 use Rattle.decode_vectors.proofs.decode_lines.Given as goal
 

@@ -1,3 +1,4 @@
+-- `encoder::encode_row` meets its contract: the goals that the check leaves open. Assumes nothing.
 use mathlib.Core.Path.{◌≡◌, refl, sym, ◌∙◌}
 use Prim.Native.Nat.{◌+◌, ◌*◌, ◌/◌, ◌<◌}
 use native.Mathlib.Nat.{div-le_self, zero-mul}

@@ -1,3 +1,4 @@
+-- `evaluation::fill_fibre` meets its contract: the goals that the check leaves open. Assumes nothing.
 use mathlib.Core.Path.{refl, sym, ap, ◌∙◌}
 use Prim.Native.Nat.{◌*◌}
 use native.Mathlib.Omega.{arith}

@@ -1,3 +1,4 @@
+-- `evaluation::spread` meets its contract: the goals that the check leaves open. Assumes nothing.
 use mathlib.Core.Path.{refl, sym, ap, ◌∙◌}
 use mathlib.Core.Bool.{not}
 use Prim.Native.Nat.{◌+◌, ◌*◌, ◌<◌}

@@ -1,3 +1,4 @@
+-- `evaluation::value_in` meets its contract: the goals that the check leaves open. Assumes nothing.
 use mathlib.Core.Path.{◌≡◌, subst}
 use native.Mathlib.Omega.{arith}
 use borrow.Author.Rules.{rules}

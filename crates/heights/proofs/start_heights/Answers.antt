@@ -1,3 +1,4 @@
+-- `heights::start_heights` meets its contract: the goals that the check leaves open. Assumes nothing.
 use mathlib.Core.Path.{refl}
 use Prim.Native.Nat.{◌<◌}
 use native.Mathlib.Omega.{arith}

@@ -1,3 +1,4 @@
+-- `judging::count_differing` meets its contract: the goals that the check leaves open. Assumes nothing.
 use native.Mathlib.Omega.{arith}
 use Rattle.judging.proofs.Differing.{from_first, past_end, place-differs, place-agrees}
 use Rattle.judging.proofs.count_differing.Goals as goal

@@ -1,3 +1,4 @@
+-- `lines::put_spaced` meets its contract: the goals that the check leaves open. Assumes nothing.
 use Rattle.std.proofs.Common.{arith}
 use Rattle.lines.specs.Text.{spaced}
 use Rattle.lines.proofs.Writing.{wrote_nothing, wrote-spaced-more, spaced-room}

@@ -1,3 +1,4 @@
+-- `lines::put_word` meets its contract: the goals that the check leaves open. Assumes nothing.
 use Rattle.std.proofs.Common.{arith}
 use Rattle.lines.proofs.Writing.{wrote_nothing, wrote-word-more}
 use Rattle.lines.proofs.put_word.Goals as goal

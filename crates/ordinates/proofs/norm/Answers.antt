@@ -1,3 +1,4 @@
+-- `ordinates::norm` meets its contract: the goals that the check leaves open. Assumes nothing.
 use mathlib.Core.Path.{sym, ap, ◌∙◌}
 use native.Mathlib.Numerals.{add-one}
 use native.Mathlib.Omega.{arith}

@@ -1,3 +1,4 @@
+-- `packing::unpack` meets its contract: the goals that the check leaves open. Assumes nothing.
 use mathlib.Core.Path.{◌≡◌, refl}
 use native.Mathlib.Omega.{arith}
 use lib.ListN.{length, length-set}

@@ -1,3 +1,4 @@
+-- `products::part_of` meets its contract: the goals that the check leaves open. Assumes nothing.
 use mathlib.Core.Path.{refl, sym}
 use native.Mathlib.Omega.{arith}
 use lib.ListN.{replicate}

@@ -1,3 +1,4 @@
+-- `products::whole_row` meets its contract: the goals that the check leaves open. Assumes nothing.
 use mathlib.Core.Path.{◌≡◌, sym, ap, ◌∙◌}
 use mathlib.Core.Logic.{inr}
 use Prim.Native.Nat.{ℕ, ◌<◌}

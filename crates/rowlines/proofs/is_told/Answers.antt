@@ -1,3 +1,4 @@
+-- `rowlines::is_told` meets its contract: the goals that the check leaves open. Assumes nothing.
 use Rattle.rowlines.specs.RowLines.{tells}
 use borrow.Author.Tests.{eq-eqb, ne_eqb}
 use Rattle.rowlines.proofs.is_told.Goals as goal

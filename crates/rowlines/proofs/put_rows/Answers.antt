@@ -1,3 +1,4 @@
+-- `rowlines::put_rows` meets its contract: the goals that the check leaves open. Assumes nothing.
 use Rattle.std.proofs.Common.{◌+◌, ◌*◌, arith, get_or}
 use Rattle.rowlines.proofs.Rows.{rows_none, rows_next, rows_end}
 use Rattle.rowlines.proofs.put_rows.Goals as goal

@@ -1,3 +1,4 @@
+-- `rowstate::same_symbols` meets its contract: the goals that the check leaves open. Assumes nothing.
 use mathlib.Core.Path.{sym, ◌∙◌}
 use native.Mathlib.Omega.{arith}
 use borrow.Author.Rules.{rules}

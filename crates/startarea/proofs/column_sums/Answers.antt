@@ -1,3 +1,4 @@
+-- `startarea::column_sums` meets its contract: the goals that the check leaves open. Assumes nothing.
 use native.Mathlib.Omega.{arith}
 use Rattle.symbols.proofs.Bytes.{known-low, known-high, square-small}
 use Rattle.symbols.proofs.SymbolLists.{below_all}

@@ -1,3 +1,4 @@
+-- `startarea::subtract_column` meets its contract: the goals that the check leaves open. Assumes nothing.
 use Prim.Native.Nat.{◌+◌}
 use native.Mathlib.Omega.{arith}
 use Rattle.workarea.proofs.Cells.{row_fits, turns-none, turns_same, turns-both}

@@ -1,3 +1,4 @@
+-- `startarea::subtract_h` meets its contract: the goals that the check leaves open. Assumes nothing.
 use Rattle.workarea.proofs.Cells.{turns-none, turns_same, turns-both}
 use Rattle.startarea.proofs.StartRows.{minus-zeros, minus_minus}
 use Rattle.startarea.proofs.StartColumns.{columns-none, columns-more}

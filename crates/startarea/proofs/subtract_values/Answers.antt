@@ -1,3 +1,4 @@
+-- `startarea::subtract_values` meets its contract: the goals that the check leaves open. Assumes nothing.
 use mathlib.Core.Path.{sym}
 use Rattle.startarea.proofs.StartBytes.{values-none, values-more}
 use borrow.Author.Rules.{rules}

@@ -1,3 +1,4 @@
+-- `steplines::put_steps` meets its contract: the goals that the check leaves open. Assumes nothing.
 use mathlib.Core.Path.{refl, ◌∙◌}
 use mathlib.Core.List.{List}
 use Prim.Native.Nat.{ℕ, ◌+◌, ◌*◌, ◌≤◌, ◌<◌}

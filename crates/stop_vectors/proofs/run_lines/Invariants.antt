@@ -1,3 +1,4 @@
+-- `stop_vectors::run_lines` meets its contract: the loop's invariant and measure. Assumes nothing.
 use Rattle.std.proofs.Common.{length, ◌-◌, ◌≤◌}
 use Rattle.stop_vectors.proofs.run_lines.Given as goal
 

@@ -1,3 +1,4 @@
+-- `substitution::add_product` meets its contract: the goals that the check leaves open. Assumes nothing.
 use native.Mathlib.Omega.{arith}
 use Rattle.workarea.proofs.Cells.{turns-none, turns_same, turns-both}
 use Rattle.substitution.proofs.ProductCells.{product-none, product-more, product-nothing}

@@ -1,3 +1,4 @@
+-- `substitution::replace_z` meets its contract: the goals that the check leaves open. Assumes nothing.
 use Rattle.workarea.proofs.Cells.{turns-none, turns_same, turns-both}
 use Rattle.substitution.proofs.ReplaceCells.{replaced-none, replaced-more}
 use borrow.Author.Rules.{rules}

@@ -1,3 +1,4 @@
+-- `symbols::all_symbols` meets its contract: the goals that the check leaves open. Assumes nothing.
 use mathlib.Core.Path.{◌≡◌, ◌∙◌}
 use native.Mathlib.Omega.{arith}
 use lib.ListN.{length}

@@ -1,3 +1,4 @@
+-- `textlines::line_end` meets its contract: the goals that the check leaves open. Assumes nothing.
 use Rattle.std.proofs.Common.{◌≡◌, length, arith, rules}
 use Rattle.textlines.proofs.Reading.{line_from, line-newline, line-goes-on, line-none}
 use Rattle.textlines.proofs.line_end.Goals as goal

@@ -1,3 +1,4 @@
+-- `updates::change_all` meets its contract: the goals that the check leaves open. Assumes nothing.
 use Rattle.lists.specs.Tables.{tab}
 use Rattle.symbols.specs.Rule.{symbols}
 use Rattle.published.specs.Steps.{updated}

@@ -1,3 +1,4 @@
+-- `updates::reduce_polynomial` meets its contract: the goals that the check leaves open. Assumes nothing.
 use Rattle.workarea.proofs.Cells.{turns-none, turns_same, turns-both}
 use Rattle.updates.proofs.UpdateCells.{reduced-none, reduced-more}
 use borrow.Author.Rules.{rules}

@@ -1,3 +1,4 @@
+-- `vectors::read_number` meets its contract: the loop's invariant and measure. Assumes nothing.
 use Rattle.std.proofs.Common.{length, ◌-◌, ◌≤◌}
 use Rattle.vectors.proofs.read_number.Given as goal
 

@@ -1,3 +1,4 @@
+-- `vectors::read_symbols` meets its contract: the loop's invariant and measure. Assumes nothing.
 use Rattle.std.proofs.Common.{length, ◌-◌, ◌≤◌}
 use Rattle.vectors.proofs.read_symbols.Given as goal
 

@@ -1,3 +1,4 @@
+-- `vectors::spell_symbols` meets its contract: the loop's invariant and measure. Assumes nothing.
 use Rattle.std.proofs.Common.{length, ◌-◌, ◌≤◌}
 use Rattle.vectors.proofs.spell_symbols.Given as goal
 

@@ -1,3 +1,4 @@
+-- `vectors::zeros_first` meets its contract: the loop's invariant and measure. Assumes nothing.
 use Rattle.std.proofs.Common.{length, ◌-◌, ◌≤◌}
 use Rattle.vectors.proofs.zeros_first.Given as goal
 

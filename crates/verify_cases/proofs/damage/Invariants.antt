@@ -1,3 +1,4 @@
+-- `verify_cases::damage` meets its contract: the loop's invariant and measure. Assumes nothing.
 use Rattle.std.proofs.Common.{◌-◌, ◌≤◌}
 use Rattle.verify_cases.proofs.damage.Given as goal
 

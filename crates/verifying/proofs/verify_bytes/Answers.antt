@@ -1,3 +1,4 @@
+-- `verifying::verify_bytes` meets its contract: the goals that the check leaves open. Assumes nothing.
 use mathlib.Core.Path.{refl, sym, ◌∙◌}
 use Prim.Native.Nat.{◌/◌}
 use native.Mathlib.Nat.{le_antisymm}

@@ -1,3 +1,4 @@
+-- `writetext::written_text` meets its contract: the goals that the check leaves open. Assumes nothing.
 use Rattle.lines.specs.Text.{ascii}
 use Rattle.writetext.specs.Told.{written_line}
 use Rattle.writetext.proofs.written_text.Goals as goal

@@ -1,3 +1,4 @@
+-- `steppairs::reading::leading_below` meets its contract: the goals that the check leaves open. Assumes nothing.
 use mathlib.Core.Path.{sym, ap, ◌∙◌}
 use Prim.Native.Nat.{◌-◌}
 use native.Mathlib.Nat.{add-zero}

@@ -1,3 +1,4 @@
+-- `workarea::rows::change_bytes` meets its contract: the goals that the check leaves open. Assumes nothing.
 use mathlib.Core.Path.{sym}
 use lib.ListN.{length-set}
 use Rattle.workarea.proofs.Bytes.{made_none, made_more}

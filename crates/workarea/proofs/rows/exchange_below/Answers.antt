@@ -1,3 +1,4 @@
+-- `workarea::rows::exchange_below` meets its contract: the goals that the check leaves open. Assumes nothing.
 use mathlib.Core.Path.{sym}
 use lib.ListN.{length-set}
 use Rattle.workarea.proofs.Bytes.{below_none, below_more}
