@@ -11,27 +11,13 @@ use answers::{Decoded, Record};
 use layout::MESSAGE_LENGTH;
 use packing::unpack;
 
-// The states of a row.
+// The states of a row. They are numbers and no enum, since a record may hold any byte: the program record_cases lends records of
+// state 9, and the C interface has the state as a byte.
 pub const EQUAL: u8 = 0;
 
 pub const OTHER_MESSAGE: u8 = 1;
 
 pub const UNREADABLE: u8 = 2;
-
-// Whether two lists have the same symbols.
-fn same_symbols(left: &[u8], right: &[u8]) -> bool
-    requires { length left.now ≡ length right.now }
-    ensures { result ≡ same_list left.now right.now }
-{
-    let mut i = 0;
-    while i < left.len() {
-        if left[i] != right[i] {
-            return false;
-        }
-        i += 1;
-    }
-    true
-}
 
 // Whether a message is the one that 20 bytes of a payload hold.
 fn is_original(message: &[u8], original: &[u8]) -> bool
@@ -40,7 +26,7 @@ fn is_original(message: &[u8], original: &[u8]) -> bool
 {
     let mut expected = [0u8; MESSAGE_LENGTH];
     unpack(original, &mut expected);
-    same_symbols(message, &expected)
+    message == expected.as_slice()
 }
 
 // The record of a row that was read to a message, or refused, against the 20 bytes of its message in the payload.
