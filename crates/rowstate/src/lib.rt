@@ -7,9 +7,10 @@ ghost use Rattle.layout.specs.Layout.{message_length, message_bytes};
 ghost use Rattle.lists.specs.Same.{same_list};
 ghost use Rattle.rowstate.specs.Outcome.{outcome, Reached};
 
-use answers::{Decoded, Record};
+use answers::Record;
 use layout::MESSAGE_LENGTH;
 use packing::unpack;
+use refusals::Refusal;
 
 // The states of a row. They are numbers and no enum, since a record may hold any byte: the program record_cases lends records of
 // state 9, and the C interface has the state as a byte.
@@ -30,24 +31,27 @@ fn is_original(message: &[u8], original: &[u8]) -> bool
 }
 
 // The record of a row that was read to a message, or refused, against the 20 bytes of its message in the payload.
-pub fn record_of(answer: Decoded, message: &[u8], original: &[u8]) -> Record
+#[tactic(auto, unfolding(crate::specs::Outcome::outcome))]
+pub fn record_of(answer: Result<usize, Refusal>, message: &[u8], original: &[u8]) -> Record
     requires message_len { (length message.now ≡ message_length) × (length original.now ≡ message_bytes) }
     requires reached { Reached answer }
     ensures { result ≡ outcome answer (same_list message.now (unpacked original.now message_length)) }
 {
-    let Decoded::Accepted(count) = answer else {
-        return Record {
+    match answer {
+        Ok(count) => {
+            let state = if is_original(message, original) {
+                EQUAL
+            } else {
+                OTHER_MESSAGE
+            };
+            Record {
+                state,
+                count: count as u8,
+            }
+        }
+        Err(_) => Record {
             state: UNREADABLE,
             count: 0,
-        };
-    };
-    let state = if is_original(message, original) {
-        EQUAL
-    } else {
-        OTHER_MESSAGE
-    };
-    Record {
-        state,
-        count: count as u8,
+        },
     }
 }
