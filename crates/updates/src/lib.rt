@@ -15,7 +15,7 @@ ghost use Rattle.pair.specs.Pairs.{Held, NumbersOf, pair_at};
 
 use pair::Pair;
 use symbols::{MOST_Q, MOST_SYMBOLS};
-use workarea::{MINUS, Row};
+use workarea::{Row, Sign};
 
 // How many symbols of row r are subtracted: of an upper row no more than there are.
 #[tactic(auto, unfolding(crate::specs::Updates::row_height))]
@@ -51,7 +51,7 @@ fn reduce_polynomial(
             polynomial: g,
             row: r,
         };
-        workarea::change_row(work, q, MINUS, to, from, count, shift, products);
+        workarea::change_row(work, q, Sign::Minus, to, from, count, shift, products);
     }
 }
 
