@@ -50,12 +50,5 @@ pub fn all_symbols(q: usize, list: &[u8]) -> bool
     ensures { result ≡ not (any_beyond q list.now) }
 {
     let size = (q * q) as u8;
-    let mut i = 0;
-    while i < list.len() {
-        if size <= list[i] {
-            return false;
-        }
-        i += 1;
-    }
-    true
+    list.iter().all(|&symbol| symbol < size)
 }
