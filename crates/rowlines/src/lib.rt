@@ -44,8 +44,8 @@ fn put_row(out: &mut [u8], at: usize, r: usize, state: u8, count: u8) -> usize
         return at;
     }
     let row = put_piece(out, at, b"row ", r);
-    let states = put_piece(out, row, b" state ", state as usize);
-    let counts = put_piece(out, states, b" count ", count as usize);
+    let states = put_piece(out, row, b" state ", usize::from(state));
+    let counts = put_piece(out, states, b" count ", usize::from(count));
     put_byte(out, counts, b'\n')
 }
 
