@@ -1,21 +1,18 @@
 -- What a weight belongs to, and what q and u name, as answers. Document 01, "Fields and curve" and "Refusal numbers".
 -- Assumes nothing.
-use Rattle.std.proofs.Common.{inr}
-use Rattle.std.specs.Prelude.{true, false, not, List, [], ◌∷◌, ℕ, eqb, length}
+use Rattle.std.specs.Prelude.{true, false, not, List, [], ◌∷◌, ℕ, Option, None, Some, Result, Ok, Err, eqb, length}
 use Rattle.algebra.specs.Weights.{gap, x_power, y_power}
+use Rattle.refusals.specs.declared.Refusal.{Refusal}
 use Rattle.refusals.specs.declared.Refusal.TheVariants.{UnknownQ, NoCode, WrongLength, NoSymbol}
-use Rattle.refusals.specs.Numbers.{Told, refused_by, Check, ◌if◌, first_of}
+use Rattle.refusals.specs.Numbers.{Told, told_as, Check, ◌if◌, first_of}
 use Rattle.symbols.specs.Rule.{is_known, any_beyond}
-use Rattle.curve.specs.declared.Monomial.{Monomial}
-use Rattle.curve.specs.declared.Monomial.TheVariants.{Gap, Powers}
+use Rattle.curve.specs.declared.Powers.{Powers}
 use Rattle.curve.specs.declared.Code.{Code}
-use Rattle.curve.specs.declared.Named.{Named}
-use Rattle.curve.specs.declared.Named.TheVariants.{Code as Found, Refused}
 use Rattle.curve.specs.Codes.{point_count, is_code, dimension, reach}
 
 -- the powers of x and y of the monomial of s, if s is no gap
-unfoldable pub monomial_of : ℕ → ℕ → Monomial
-monomial_of q s = elim (gap q s) [ true ↦ Gap | false ↦ Powers (x_power q s) (y_power q s) ]
+unfoldable pub monomial_of : ℕ → ℕ → Option Powers
+monomial_of q s = elim (gap q s) [ true ↦ None | false ↦ Some (record { x = x_power q s; y = y_power q s }) ]
 
 -- the code of q and u
 abbrev pub code_of : ℕ → ℕ → Code
@@ -30,10 +27,9 @@ unfoldable pub symbol_checks : ℕ → ℕ → List ℕ → List Check
 symbol_checks q n given = (WrongLength if not (eqb (length given) n)) ∷ (NoSymbol if any_beyond q given) ∷ []
 
 -- what q and u name
-unfoldable pub named : ℕ → ℕ → Named
-named q u = first_of (code_checks q u) Refused (Found (code_of q u))
+unfoldable pub named : ℕ → ℕ → Result Code Refusal
+named q u = first_of (code_checks q u) Err (Ok (code_of q u))
 
 -- the answer in numbers: a code has q, u, n, k and its reach
-abbrev pub named_as : Named → Told
-named_as (Found code) = inr (code.q ∷ code.u ∷ code.n ∷ code.k ∷ code.reach ∷ [])
-named_as (Refused why) = refused_by why
+abbrev pub named_as : Result Code Refusal → Told
+named_as = told_as (λ code. code.q ∷ code.u ∷ code.n ∷ code.k ∷ code.reach ∷ [])

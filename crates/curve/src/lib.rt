@@ -9,13 +9,11 @@ ghost use Rattle.curve.specs.Answers.{monomial_of, named};
 
 use refusals::Refusal;
 
-// What a weight belongs to.
+// The powers of x and of y in a monomial.
 #[derive(Clone, Copy)]
-pub enum Monomial {
-    // no monomial has this weight
-    Gap,
-    // the powers of x and of y in the monomial that has it
-    Powers { x: usize, y: usize },
+pub struct Powers {
+    pub x: usize,
+    pub y: usize,
 }
 
 // A code: q and u, how many symbols a row and a message have, and the reach.
@@ -28,13 +26,6 @@ pub struct Code {
     pub reach: usize,
 }
 
-// What q and u name.
-#[derive(Clone, Copy)]
-pub enum Named {
-    Code(Code),
-    Refused(Refusal),
-}
-
 // The remainder by q. A divisor that the compiler does not know takes it many times as long as one that it does.
 pub fn remainder(q: usize, n: usize) -> usize
     requires { Known q }
@@ -43,7 +34,7 @@ pub fn remainder(q: usize, n: usize) -> usize
     if q == 4 { n % 4 } else { n % 2 }
 }
 
-// The quotient by q.
+// The quotient by q, taken by divisors that the compiler knows for the same reason.
 fn quotient(q: usize, n: usize) -> usize
     requires { Known q }
     ensures { result ≡ n / q }
@@ -59,21 +50,17 @@ pub fn is_gap(q: usize, s: usize) -> bool
     s < (q + 1) * remainder(q, s)
 }
 
-// The monomial of a weight, or that the weight is a gap.
-pub fn monomial_of(q: usize, s: usize) -> Monomial
+// The powers of the monomial of a weight. A gap has none.
+pub fn monomial_of(q: usize, s: usize) -> Option<Powers>
     requires { Known q }
     ensures { result ≡ monomial_of q s }
 {
     let y = remainder(q, s);
-    let least = (q + 1) * y;
-    if s < least {
-        Monomial::Gap
-    } else {
-        Monomial::Powers {
-            x: quotient(q, s - least),
-            y,
-        }
-    }
+    let rest = s.checked_sub((q + 1) * y)?;
+    Some(Powers {
+        x: quotient(q, rest),
+        y,
+    })
 }
 
 // How many points there are.
@@ -89,13 +76,7 @@ pub fn is_code(q: usize, u: usize) -> bool
     requires { Known q }
     ensures { result ≡ is_code q u }
 {
-    if u < q {
-        return false;
-    }
-    if point_count(q) <= u {
-        return false;
-    }
-    !is_gap(q, u)
+    q <= u && u < point_count(q) && !is_gap(q, u)
 }
 
 // k, the length of a message.
@@ -103,15 +84,7 @@ pub fn dimension(q: usize, u: usize) -> usize
     requires { Known q × (u < point_count q) }
     ensures { result ≡ dimension_of q u }
 {
-    let mut count = 0;
-    let mut s = 0;
-    while s <= u {
-        if !is_gap(q, s) {
-            count += 1;
-        }
-        s += 1;
-    }
-    count
+    (0..=u).filter(|s| !is_gap(q, *s)).count()
 }
 
 // The distance of a code: the row of aq decides it where u = aq + b is not far above that.
@@ -138,17 +111,20 @@ fn reach(q: usize, u: usize) -> usize
 }
 
 // The code that q and u name, or the refusal 1 or 2. Encoding, stopping and decoding ask for it first and hand it on.
-pub fn code_of(q: usize, u: usize) -> Named
+pub fn code_of(q: usize, u: usize) -> Result<Code, Refusal>
     ensures { result ≡ named q u }
 {
     if !symbols::is_known(q) {
-        return Named::Refused(Refusal::UnknownQ);
+        return Err(Refusal::UnknownQ);
     }
     if !is_code(q, u) {
-        return Named::Refused(Refusal::NoCode);
+        return Err(Refusal::NoCode);
     }
-    let n = point_count(q);
-    let k = dimension(q, u);
-    let reach = reach(q, u);
-    Named::Code(Code { q, u, n, k, reach })
+    Ok(Code {
+        q,
+        u,
+        n: point_count(q),
+        k: dimension(q, u),
+        reach: reach(q, u),
+    })
 }

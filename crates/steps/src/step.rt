@@ -35,8 +35,8 @@ pub fn take_step(
 ) -> u8
     requires known { Known q × (area_size q ≤ length work.old) × (done < step_count q) × HasProducts q table.now }
     requires heights { Heights q heights.old }
-    ensures heights_2 { Heights q heights.new }
-    ensures by_index { (row : List ℕ) (rest : List ℕ) → work.old ≡ picture_after q u row done ++ rest → BelowAfter q u row done heights.old
+    ensures heights_left { Heights q heights.new }
+    ensures stepped { (row : List ℕ) (rest : List ℕ) → work.old ≡ picture_after q u row done ++ rest → BelowAfter q u row done heights.old
         → Stepped q u row done rest result work.new × BelowAfter q u row (done + 1) heights.new }
 {
     let s = start_weight(q) - done;

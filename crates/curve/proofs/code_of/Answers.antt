@@ -3,10 +3,10 @@
 use mathlib.Core.Path.{ap, ◌≡◌, sym, ◌∙◌}
 use mathlib.Core.Bool.{not, true}
 use borrow.Author.Tests.{not-false}
+use Rattle.std.specs.Prelude.{Err}
 use Rattle.symbols.specs.Rule.{is_known}
 use Rattle.symbols.proofs.Bytes.{test_known}
 use Rattle.refusals.proofs.Checks.{here, later, clear, done, refused, passed}
-use Rattle.curve.specs.declared.Named.TheVariants.{Refused}
 use Rattle.curve.specs.Codes.{is_code}
 use Rattle.curve.specs.Answers.{code_checks, named}
 use Rattle.curve.proofs.CodeLaws.{code_below}
@@ -22,7 +22,7 @@ code c = sym c.is_code.ensures ∙ not-false _ (ap not c.if-not-is_code.false)
 
 pub returns-then-not-is_known : goal.returns-then-not-is_known
 unfolding named code_checks
-returns-then-not-is_known c = sym (refused Refused _ (here (rw c.is_known.ensures at (ap not c.if-not-is_known.true))))
+returns-then-not-is_known c = sym (refused Err _ (here (rw c.is_known.ensures at (ap not c.if-not-is_known.true))))
 
 pub is_code-requires : goal.is_code-requires
 is_code-requires c = test_known _ (known (goal.at.is_code-requires c).Else-not-is_known)
@@ -31,24 +31,24 @@ pub returns-then-not-is_code : goal.returns-then-not-is_code
 unfolding named code_checks
 returns-then-not-is_code c =
     sym
-    (refused Refused _
+    (refused Err _
     (later (rw c.is_known.ensures at (ap not c.if-not-is_known.false))
     (here (rw c.is_code.ensures at (ap not c.if-not-is_code.true)))))
 
-pub point_count-n-requires : goal.point_count-n-requires
-point_count-n-requires c = test_known _ (known (goal.at.point_count-n-requires c).Else-not-is_known)
+pub point_count-requires : goal.point_count-requires
+point_count-requires c = test_known _ (known (goal.at.point_count-requires c).Else-not-is_known)
 
-pub dimension-k-requires : goal.dimension-k-requires
-dimension-k-requires c = (test_known _ (known (goal.at.dimension-k-requires c).Else-not-is_known), code_below _ _ (code (goal.at.dimension-k-requires c).Else-not-is_code))
+pub dimension-requires : goal.dimension-requires
+dimension-requires c = (test_known _ (known (goal.at.dimension-requires c).Else-not-is_known), code_below _ _ (code (goal.at.dimension-requires c).Else-not-is_code))
 
-pub reach-reach-requires : goal.reach-reach-requires
-reach-reach-requires c = (test_known _ (known (goal.at.reach-reach-requires c).Else-not-is_known), code_below _ _ (code (goal.at.reach-reach-requires c).Else-not-is_code))
+pub reach-requires : goal.reach-requires
+reach-requires c = (test_known _ (known (goal.at.reach-requires c).Else-not-is_known), code_below _ _ (code (goal.at.reach-requires c).Else-not-is_code))
 
 pub returns : goal.returns
 unfolding named code_checks
 returns c =
-    rw (c.point_count-n.ensures, c.dimension-k.ensures, c.reach-reach.ensures)
+    rw (c.point_count.ensures, c.dimension.ensures, c.reach.ensures)
     (sym
-    (passed Refused _
+    (passed Err _
     (clear (rw c.is_known.ensures at (ap not c.if-not-is_known.false))
     (clear (rw c.is_code.ensures at (ap not c.if-not-is_code.false)) done))))

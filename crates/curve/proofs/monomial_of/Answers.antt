@@ -1,5 +1,6 @@
 -- `curve::monomial_of` meets its contract. Assumes nothing.
 use native.Mathlib.Omega.{arith}
+use Rattle.std.proofs.Math.Nat.{lt_of_not-le}
 use borrow.Author.Tests.{lt-ltb, le-ltb}
 use Rattle.algebra.specs.Weights.{gap, x_power, y_power}
 use Rattle.symbols.proofs.Bytes.{known-high}
@@ -7,18 +8,20 @@ use Rattle.curve.specs.Answers.{monomial_of}
 use Rattle.curve.proofs.Sizes.{least-small}
 use Rattle.curve.proofs.monomial_of.Goals as goal
 
-pub overflow_add-least : goal.overflow_add-least
-overflow_add-least c = omega (arith, known-high _ c.requires)
+pub overflow_add-q : goal.overflow_add-q
+overflow_add-q c = omega (arith, known-high _ c.requires)
 
-pub overflow_mul-least : goal.overflow_mul-least
-overflow_mul-least c = rw c.remainder-y.ensures (omega (arith, least-small _ c.args.s c.requires))
+pub overflow_mul-q : goal.overflow_mul-q
+overflow_mul-q c = rw c.remainder-y.ensures (omega (arith, least-small _ c.args.s c.requires))
 
-pub returns-then-s-least : goal.returns-then-s-least
+pub returns-in_err-rest : goal.returns-in_err-rest
 unfolding monomial_of gap
-returns-then-s-least c = rw (lt-ltb _ _ (rw c.remainder-y.ensures at c.if-s-least.true), monomial_of)
+returns-in_err-rest c =
+    let beyond = rw c.remainder-y.ensures at (c.in_err-rest.ensures) in
+    rw (c.from_residual.ensures, lt-ltb _ _ (lt_of_not-le beyond), monomial_of)
 
-pub returns-else-s-least : goal.returns-else-s-least
+pub returns : goal.returns
 unfolding monomial_of gap x_power y_power
-returns-else-s-least c =
-    let y = c.remainder-y.ensures in
-    rw (le-ltb _ _ (rw y at c.if-s-least.false), monomial_of, c.quotient.ensures, y)
+returns c =
+    let within = rw c.remainder-y.ensures at (c.in_ok-rest.ensures) in
+    rw (le-ltb _ _ within.0, monomial_of, c.quotient.ensures, within.1, c.remainder-y.ensures)

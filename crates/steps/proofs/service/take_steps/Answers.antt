@@ -43,11 +43,11 @@ loop-done-preserved c =
       search rules,
       search rules,
       noting.value,
-      stepping.heights_2,
+      stepping.heights_left,
       search rules,
       λ row rest rest' e e'.
           let now-then = turn.invariant.6 row rest rest' e e' in
-          let stepped = stepping.by_index row rest now-then.0 now-then.2 in
+          let stepped = stepping.stepped row rest now-then.0 now-then.2 in
           (stepped.0.picture, noting.votes_left ∙ ap (noted _ _ _ _) now-then.1 ∙ noted-next _ _ row _ _ rest' few stepped.0.vote-is, stepped.1),
     )
 
