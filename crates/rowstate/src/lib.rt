@@ -37,21 +37,19 @@ pub fn record_of(answer: Result<usize, Refusal>, message: &[u8], original: &[u8]
     requires reached { Reached answer }
     ensures { result ≡ outcome answer (same_list message.now (unpacked original.now message_length)) }
 {
-    match answer {
-        Ok(count) => {
-            let state = if is_original(message, original) {
-                EQUAL
-            } else {
-                OTHER_MESSAGE
-            };
-            Record {
-                state,
-                count: count as u8,
-            }
-        }
-        Err(_) => Record {
+    let Ok(count) = answer else {
+        return Record {
             state: UNREADABLE,
             count: 0,
-        },
+        };
+    };
+    let state = if is_original(message, original) {
+        EQUAL
+    } else {
+        OTHER_MESSAGE
+    };
+    Record {
+        state,
+        count: count as u8,
     }
 }
