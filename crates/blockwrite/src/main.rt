@@ -3,11 +3,11 @@
 // nothing else. The block's file changes only once the whole block has been written beside it.
 #![tactic(auto)]
 
-use answers::Written;
+use refusals::Refusal;
 use std::io;
 
 // Prints what writing answered.
-fn report(rt: &impl Print, written: Written) -> io::Result<()> {
+fn report(rt: &impl Print, written: Result<usize, Refusal>) -> io::Result<()> {
     let mut line = [0u8; 32];
     let end = writetext::written_text(written, &mut line);
     rt.write_all(&line[..end])
@@ -23,7 +23,7 @@ fn main(rt: HostRuntime) -> io::Result<()> {
     };
     let mut area = [0u8; 32776];
     let written = block::write(&payload[..end], &mut area);
-    if let Written::Length(length) = written {
+    if let Ok(length) = written {
         if !files::save(&rt, 2, &area[..length]) {
             return Ok(());
         }

@@ -10,12 +10,12 @@ use answers::Record;
 use std::io;
 use verifying::verify;
 
-// Verifies with the records as structs in a local array.
+// Verifies with the records as structs in a local array, and looks at no more than them.
 fn recorded(block: &[u8], payload: &[u8], work: &mut [u8]) -> [Record; 4]
     ensures { result ≡ verify_records block.now payload.now (replicate 4 blank) work.old }
 {
     let mut records = [Record { state: 9, count: 9 }; 4];
-    verify(block, payload, &mut records, work);
+    let _ = verify(block, payload, &mut records, work);
     records
 }
 

@@ -5,10 +5,10 @@ use Rattle.blockwrite.proofs.main.Goals as goal
 
 pub slice_bounds-area-end : goal.slice_bounds-area-end
 slice_bounds-area-end c =
-    omega (arith, (told-length _ _ _ (sym c.in-Length.ensures.answered)).1, c.write-written.auto.block)
+    omega (arith, (told-length _ _ _ (sym c.in-Ok.ensures.answered)).1, c.write-written.auto.block)
 
 pub slice_bounds-save-end : goal.slice_bounds-save-end
 slice_bounds-save-end c =
     sym
-    (length-take-le c.in-Length.length c.write-written.new.block
-    (omega (arith, (told-length _ _ _ (sym c.in-Length.ensures.answered)).1, c.write-written.auto.block)))
+    (length-take-le c.in-Ok.length c.write-written.new.block
+    (omega (arith, (told-length _ _ _ (sym c.in-Ok.ensures.answered)).1, c.write-written.auto.block)))
