@@ -3,14 +3,15 @@
 
 ghost use Rattle.std.specs.Prelude.{◌≤◌, length};
 
-use answers::Verified;
+use answers::Verdict;
+use refusals::Refusal;
 use std::io;
 use verifying::verify_bytes;
 
-// Writes a case's name and its verdict.
-fn tell(rt: &impl Print, name: &str, verdict: Verified) -> io::Result<()> {
+// Writes a case's name and what verifying answered.
+fn tell(rt: &impl Print, name: &str, verified: Result<Verdict, Refusal>) -> io::Result<()> {
     let mut line = [0u8; 32];
-    let end = blocktext::verdict_text(verdict, &mut line);
+    let end = blocktext::verdict_text(verified, &mut line);
     print!(rt; "{name}")?;
     rt.write_all(&line[..end])
 }
