@@ -1,6 +1,6 @@
 -- A list with a run of its places replaced: its length, what stands where, and how runs and stores follow one another.
 -- Assumes nothing.
-use mathlib.Core.Path.{◌≡◌, refl, ap, ap₂, sym, ◌∙◌, subst}
+use mathlib.Core.Path.{◌≡◌, refl, ap, ap₂, sym, ◌∙◌}
 use mathlib.Core.Logic.{◌⊎◌, inl, inr, ⊎_elim}
 use mathlib.Core.List.{List, ◌++◌}
 use Prim.Native.Nat.{ℕ, zero, suc, ◌+◌, ◌-◌, ◌≤◌, ◌<◌}
@@ -120,14 +120,3 @@ module _ {ℓ} {A : Type ℓ} where
           ∙ get_or-drop n l (k - n) d
           ∙ ap (λ (i : ℕ). get_or l i d) (omega arith)))
           (lt-or-ge k n)
-
--- what holds of the elements below i holds of one more after a store there
-pub set_holds : {A : Type 0} (Q : ℕ → A → Type 0) (l : List A) (i : ℕ) (a d : A) → i < length l → ((j : ℕ) → j < i → Q j (get_or l j d)) → Q i a
-    → (j : ℕ) → j < i + 1 → Q j (get_or (set l i a) j d)
-set_holds {A} Q l i a d h old new j k =
-    ⊎_elim
-    (λ (b : j < i). subst (Q j) (sym (get_or-set_other l i j a d (λ e. omega arith))) (old j b))
-    (λ (b : i ≤ j).
-    let e : i ≡ j = omega arith in
-    subst (λ (n : ℕ). Q n (get_or (set l i a) n d)) e (subst (Q i) (sym (get_or-set_same l i a d h)) new))
-    (lt-or-ge j i)

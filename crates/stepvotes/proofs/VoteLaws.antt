@@ -1,21 +1,14 @@
 -- What the vote of a step is, and which steps vote.
 -- Assumes nothing.
 use mathlib.Core.Path.{◌≡◌, sym, ap, ◌∙◌}
-use mathlib.Core.Bool.{true, false, not}
+use mathlib.Core.Bool.{true, false}
 use mathlib.Core.List.{List}
-use Prim.Native.Nat.{ℕ, ◌-◌, ◌*◌, ◌<◌, ◌≤◌}
-use borrow.Author.Tests.{le-leb}
-use Rattle.algebra.specs.Weights.{gap, nongap}
+use Prim.Native.Nat.{ℕ, ◌-◌, ◌*◌, ◌<◌}
 use Rattle.symbols.specs.Rule.{Known, symbols, number}
 use Rattle.symbols.proofs.FieldLaws.{laws-of}
 use Rattle.symbols.proofs.Bytes.{number-of-below}
 use Rattle.published.specs.Pairing.{Pairing, is_voted, score, best, vote}
 use Rattle.published.proofs.PairSymbols.{unvoted}
-
--- a step with s ≤ u votes if s is no gap
-pub voted-is : (q u s : ℕ) → s ≤ u → not (gap q s) ≡ is_voted q u s
-unfolding is_voted nongap
-voted-is q u s h = rw (le-leb s u h)
 
 -- the vote is the best symbol, and 0 in a step that does not vote
 pub vote-yes : (q u s r : ℕ) → Known q → (Ps : List (Pairing (symbols q) q)) → is_voted q u s ≡ true → r < q * q
