@@ -4,7 +4,7 @@
 mod tables;
 
 ghost use Rattle.std.specs.Prelude.{◌≡◌, ◌+◌, ◌≤◌, length, replicate};
-ghost use Rattle.symbols.specs.Sizes.{most_symbols};
+ghost use Rattle.symbols.specs.Sizes.{most_q, most_symbols};
 ghost use Rattle.symbols.specs.Rule.{Known, Known-prop, symbols, number, symbol};
 ghost use Rattle.symbols.specs.Tables.{product_row, places_on, HasProducts};
 ghost use Rattle.lists.specs.Tables.{put};
@@ -18,27 +18,19 @@ pub struct Products {
     pub q: usize,
     places: [u8; TABLE_SIZE],
     pub ghost known: { Known q } by { Known-prop q },
+    pub ghost small: { q ≤ most_q },
     ghost complete: { HasProducts q places },
 }
 
-// The n bytes of a table from a start on, and zeros in the other places of a row.
-fn part_of(table: &[u8], start: usize, n: usize) -> [u8; MOST_SYMBOLS]
-    requires { (n ≤ most_symbols) × (start + n ≤ length table.now) }
-    ensures { result ≡ put (replicate most_symbols 0) 0 n (places_on table.now start) }
+// The N places of a row from a start on in its table, copied at once, and zeros in the others. They are added to zeros: the compiler
+// makes one wide move of such a loop wherever it is used, while it takes a plain copy apart where the row of another q can come in
+// its place.
+fn part_of<const N: usize>(table: &[u8], start: usize) -> [u8; MOST_SYMBOLS]
+    requires { (N ≤ most_symbols) × (start + N ≤ length table.now) }
+    ensures { result ≡ put (replicate most_symbols 0) 0 N (places_on table.now start) }
 {
     let mut row = [0u8; MOST_SYMBOLS];
-    row[..n].copy_from_slice(&table[start..start + n]);
-    row
-}
-
-// The places of a row of the largest q, from a start on in its table, copied at once. They are added to zeros: the compiler makes
-// one wide move of such a loop wherever it is used, while it takes a plain copy apart where the row of q = 2 can come in its place.
-fn whole_row(table: &[u8], start: usize) -> [u8; MOST_SYMBOLS]
-    requires { start + most_symbols ≤ length table.now }
-    ensures { result ≡ put (replicate most_symbols 0) 0 most_symbols (places_on table.now start) }
-{
-    let mut row = [0u8; MOST_SYMBOLS];
-    for i in 0..MOST_SYMBOLS {
+    for i in 0..N {
         row[i] = row[i] ^ table[start + i];
     }
     row
@@ -66,9 +58,9 @@ impl Products {
         ensures { result ≡ product_row self.now.q a }
     {
         if self.q == 4 {
-            whole_row(&self.places, (a % 16) as usize * 16)
+            part_of::<16>(&self.places, (a % 16) as usize * 16)
         } else {
-            part_of(&self.places, (a % 4) as usize * 4, 4)
+            part_of::<4>(&self.places, (a % 4) as usize * 4)
         }
     }
 
