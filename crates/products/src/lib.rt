@@ -4,77 +4,74 @@
 mod tables;
 
 ghost use Rattle.std.specs.Prelude.{◌≡◌, ◌+◌, ◌≤◌, length, replicate};
-ghost use Rattle.symbols.specs.Sizes.{most_symbols};
-ghost use Rattle.symbols.specs.Rule.{Known, symbols, number, symbol};
+ghost use Rattle.symbols.specs.Sizes.{most_q, most_symbols};
+ghost use Rattle.symbols.specs.Rule.{Known, Known-prop, symbols, number, symbol};
 ghost use Rattle.symbols.specs.Tables.{product_row, places_on, HasProducts};
 ghost use Rattle.lists.specs.Tables.{put};
 
 use symbols::{MOST_SYMBOLS, TABLE_SIZE};
 
-// The n bytes of a table from a start on, and zeros in the other places of a row.
-fn part_of(table: &[u8], start: usize, n: usize) -> [u8; MOST_SYMBOLS]
-    requires { (n ≤ most_symbols) × (start + n ≤ length table.now) }
-    ensures { result ≡ put (replicate most_symbols 0) 0 n (places_on table.now start) }
-{
-    let mut row = [0u8; MOST_SYMBOLS];
-    row[..n].copy_from_slice(&table[start..start + n]);
-    row
+// A known q and the products of its symbols, which stand in the first of the places. Who takes many products makes it once and
+// lends it on.
+#[derive(Drop)]
+pub struct Products {
+    pub q: usize,
+    places: [u8; TABLE_SIZE],
+    pub ghost known: { Known q } by { Known-prop q },
+    pub ghost small: { q ≤ most_q },
+    ghost complete: { HasProducts q places },
 }
 
-// The places of a row of the largest q, from a start on in its table, copied at once. They are added to zeros: the compiler makes
-// one wide move of such a loop wherever it is used, while it takes a plain copy apart where the row of q = 2 can come in its place.
-fn whole_row(table: &[u8], start: usize) -> [u8; MOST_SYMBOLS]
-    requires { start + most_symbols ≤ length table.now }
-    ensures { result ≡ put (replicate most_symbols 0) 0 most_symbols (places_on table.now start) }
+// The N places of a row from a start on in its table, copied at once, and zeros in the others. They are added to zeros: the compiler
+// makes one wide move of such a loop wherever it is used, while it takes a plain copy apart where the row of another q can come in
+// its place.
+fn part_of<const N: usize>(table: &[u8], start: usize) -> [u8; MOST_SYMBOLS]
+    requires { (N ≤ most_symbols) × (start + N ≤ length table.now) }
+    ensures { result ≡ put (replicate most_symbols 0) 0 N (places_on table.now start) }
 {
     let mut row = [0u8; MOST_SYMBOLS];
-    for i in 0..MOST_SYMBOLS {
+    for i in 0..N {
         row[i] = row[i] ^ table[start + i];
     }
     row
 }
 
-// The table of q in the first places of a list, for callers that take many of its rows.
-pub fn table_of(q: usize) -> [u8; TABLE_SIZE]
-    requires { Known q }
-    ensures { HasProducts q result }
-{
-    if q == 4 {
-        return tables::PRODUCTS_4;
+impl Products {
+    // The products of q's symbols.
+    pub fn of(q: usize) -> Self
+        requires { Known q }
+        ensures { result.q ≡ q }
+    {
+        if q == 4 {
+            return Products {
+                q,
+                places: tables::PRODUCTS_4,
+            };
+        }
+        let mut places = [0u8; TABLE_SIZE];
+        places[..16].copy_from_slice(&tables::PRODUCTS_2);
+        Products { q, places }
     }
-    let mut table = [0u8; TABLE_SIZE];
-    table[..16].copy_from_slice(&tables::PRODUCTS_2);
-    table
-}
 
-// The products of `a` by all symbols, from such a list, for loops with one factor: place b holds the product by b.
-pub fn products_in(table: &[u8], q: usize, a: u8) -> [u8; MOST_SYMBOLS]
-    requires { Known q × HasProducts q table.now }
-    ensures { result ≡ product_row q a }
-{
-    if q == 4 {
-        whole_row(table, (a % 16) as usize * 16)
-    } else {
-        part_of(table, (a % 4) as usize * 4, 4)
+    // The products of `a` by all symbols, for loops with one factor: place b holds the product by b.
+    pub fn row(&self, a: u8) -> [u8; MOST_SYMBOLS]
+        ensures { result ≡ product_row self.now.q a }
+    {
+        if self.q == 4 {
+            part_of::<16>(&self.places, (a % 16) as usize * 16)
+        } else {
+            part_of::<4>(&self.places, (a % 4) as usize * 4)
+        }
     }
-}
 
-// The product of two symbols, from such a list.
-pub fn product_in(table: &[u8], q: usize, a: u8, b: u8) -> u8
-    requires { Known q × HasProducts q table.now }
-    ensures { result ≡ number q ((symbols q).◌⊗◌ (symbol q a) (symbol q b)) }
-{
-    if q == 4 {
-        table[(a % 16) as usize * 16 + (b % 16) as usize]
-    } else {
-        table[(a % 4) as usize * 4 + (b % 4) as usize]
+    // The product of two symbols.
+    pub fn product(&self, a: u8, b: u8) -> u8
+        ensures { result ≡ number self.now.q ((symbols self.now.q).◌⊗◌ (symbol self.now.q a) (symbol self.now.q b)) }
+    {
+        if self.q == 4 {
+            self.places[(a % 16) as usize * 16 + (b % 16) as usize]
+        } else {
+            self.places[(a % 4) as usize * 4 + (b % 4) as usize]
+        }
     }
-}
-
-// All products of `a`, for a caller that takes only few.
-pub fn products_of(q: usize, a: u8) -> [u8; MOST_SYMBOLS]
-    requires { Known q }
-    ensures { result ≡ product_row q a }
-{
-    products_in(&table_of(q), q, a)
 }
