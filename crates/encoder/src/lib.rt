@@ -9,6 +9,7 @@ ghost use Rattle.encoder.specs.Encoding.{row_numbers, encode_answer, encode_outp
 
 use curve::Code;
 use evaluation::{column, fill_fibre, spread};
+use products::Products;
 use refusals::Refusal;
 
 // The row of a message, written to the first n places. A row of the tape code takes 976 products: at each of the 16 x eleven
@@ -21,10 +22,10 @@ pub fn encode_row(code: Code, message: &[u8], row: &mut [u8])
     let u = code.u;
     let places = spread(q, u, message);
     let width = u / q + 1;
-    let table = products::table_of(q);
+    let products = Products::of(q);
     for x in 0..q * q {
-        let values = column(&table, q, x as u8, &places, width);
-        fill_fibre(&table, q, x, &values, row);
+        let values = column(&products, x as u8, &places, width);
+        fill_fibre(&products, x, &values, row);
     }
 }
 

@@ -5,11 +5,11 @@
 ghost use Rattle.std.specs.Prelude.{◌+◌, ◌*◌, ◌<◌, ◌≤◌, ◌≡◌, length};
 ghost use Rattle.symbols.specs.Sizes.{most_q, most_symbols, most_points};
 ghost use Rattle.symbols.specs.Rule.{Known};
-ghost use Rattle.symbols.specs.Tables.{HasProducts};
 ghost use Rattle.curve.specs.Codes.{point_count, dimension};
 ghost use Rattle.evaluation.specs.Stages.{IsValue, IsSpread, IsColumn, IsFibre};
 
 use curve::Powers;
+use products::Products;
 use symbols::{MOST_POINTS, MOST_Q, MOST_SYMBOLS, SYMBOL_PLACES};
 
 // Horner's rule: the value of the polynomial with these coefficients at the symbol whose products these are.
@@ -43,29 +43,31 @@ pub fn spread(q: usize, u: usize, message: &[u8]) -> [u8; MOST_POINTS]
 }
 
 // The values at x of the polynomials in x that stand at the powers of y.
-pub fn column(table: &[u8], q: usize, x: u8, places: &[u8], width: usize) -> [u8; MOST_Q]
-    requires { Known q × (0 < width) × (width ≤ most_symbols) × (length places.now ≡ most_points) × HasProducts q table.now }
-    ensures { IsColumn q width x places.now result }
+pub fn column(products: &Products, x: u8, places: &[u8], width: usize) -> [u8; MOST_Q]
+    requires { (width ≤ most_symbols) × (length places.now ≡ most_points) }
+    ensures { IsColumn products.now.q width x places.now result }
 {
-    let products = products::products_in(table, q, x);
+    let q = products.q;
+    let by_x = products.row(x);
     let mut values = [0u8; MOST_Q];
     for j in 0..q {
         let start = j * MOST_SYMBOLS;
         let end = start + width;
-        values[j] = value_in(q, &products, &places[start..end]);
+        values[j] = value_in(q, &by_x, &places[start..end]);
     }
     values
 }
 
 // The symbols of the row at the points above x, from the values there.
-pub fn fill_fibre(table: &[u8], q: usize, x: usize, values: &[u8], row: &mut [u8])
-    requires { Known q × (x < q * q) × (length values.now ≡ most_q) × (point_count q ≤ length row.old) × HasProducts q table.now }
-    ensures { IsFibre q x values.now row.old row.new }
+pub fn fill_fibre(products: &Products, x: usize, values: &[u8], row: &mut [u8])
+    requires { (x < products.now.q * products.now.q) × (length values.now ≡ most_q) × (point_count products.now.q ≤ length row.old) }
+    ensures { IsFibre products.now.q x values.now row.old row.new }
 {
-    let ordinates = ordinates::ordinates(q, products::products_in(table, q, x as u8));
+    let q = products.q;
+    let ordinates = ordinates::ordinates(q, products.row(x as u8));
     let start = x * q;
     for b in 0..q {
-        let products = products::products_in(table, q, ordinates[b]);
-        row[start + b] = value_in(q, &products, &values[..q]);
+        let by_y = products.row(ordinates[b]);
+        row[start + b] = value_in(q, &by_y, &values[..q]);
     }
 }

@@ -1,12 +1,22 @@
 // The heights of the upper parts: kept while the polynomials change, never searched for.
 #![tactic(auto)]
 
-ghost use Rattle.std.specs.Prelude.{◌≡◌, ◌+◌, ◌*◌, ◌<◌, ◌≤◌};
+ghost use Rattle.std.specs.Prelude.{◌≡◌, ◌+◌, ◌*◌, ◌<◌, ◌≤◌, true, get_or};
 ghost use Rattle.symbols.specs.Sizes.{most_shift};
-ghost use Rattle.symbols.specs.Rule.{Known};
-ghost use Rattle.workarea.specs.Heights.{Heights, height_of_sum, heights_added, heights_exchanged, AtStart};
+ghost use Rattle.symbols.specs.Rule.{is_known, Known};
+ghost use Rattle.published.specs.Start.{width};
+ghost use Rattle.workarea.specs.Heights.{Heights as AreHeights, height_of_sum, heights_added, heights_exchanged, AtStart};
 
 use symbols::MOST_POLYNOMIALS;
+
+// A height for each of the 2q polynomials of a known q, none more than the width.
+#[derive(Clone, Copy)]
+pub struct Heights {
+    pub q: usize,
+    pub each: [usize; MOST_POLYNOMIALS],
+    pub ghost known: { is_known q ≡ true },
+    pub ghost low: { AreHeights q each },
+}
 
 // The height of a sum of two upper parts: the larger, and no more than the width.
 #[tactic(auto, unfolding(workarea::specs::Heights::height_of_sum))]
@@ -17,35 +27,58 @@ fn height_of_sum(q: usize, a: usize, b: usize) -> usize
     workarea::width_of(q).min(a.max(b))
 }
 
-// The heights after polynomial f has become f - m·x^shift·g.
-#[tactic(auto, using(workarea::proofs::Sizes::sizes), unfolding(workarea::specs::Heights::heights_added))]
-pub fn add_heights(heights: &mut [usize], q: usize, f: usize, g: usize, shift: usize)
-    requires known { Known q × Heights q heights.old }
-    requires f_bound { (f < 2 * q) × (g < 2 * q) × (shift ≤ most_shift) }
-    ensures { heights.new ≡ heights_added q f g shift heights.old }
-{
-    heights[f] = height_of_sum(q, heights[f], heights[g] + shift);
-}
-
-// The heights after f has become x^shift·f - m·g, and g what f was.
-#[tactic(auto, using(workarea::proofs::Sizes::sizes), unfolding(workarea::specs::Heights::heights_exchanged))]
-pub fn exchange_heights(heights: &mut [usize], q: usize, f: usize, g: usize, shift: usize)
-    requires known { Known q × Heights q heights.old }
-    requires f_bound { (f < 2 * q) × (g < 2 * q) × (shift ≤ most_shift) }
-    ensures { heights.new ≡ heights_exchanged q f g shift heights.old }
-{
-    let old = heights[f];
-    heights[f] = height_of_sum(q, old + shift, heights[g]);
-    heights[g] = old;
-}
-
 // The heights before the first step: g_i has no upper part, and that of f_i is y^i.
 #[tactic(auto, using(workarea::proofs::Sizes::sizes))]
-pub fn start_heights(q: usize) -> [usize; MOST_POLYNOMIALS]
+fn start_heights(q: usize) -> [usize; MOST_POLYNOMIALS]
     requires { Known q }
     ensures { AtStart q result }
 {
     let mut heights = [0usize; MOST_POLYNOMIALS];
     heights[q..2 * q].fill(1);
     heights
+}
+
+impl Heights {
+    // The heights before the first step.
+    #[tactic(auto, using(crate::proofs::Low::started))]
+    pub fn at_start(q: usize) -> Self
+        requires { Known q }
+        ensures { (result.q ≡ q) × AtStart q result.each }
+    {
+        let each = start_heights(q);
+        Heights { q, each }
+    }
+
+    // The height of polynomial p.
+    pub fn of(&self, p: usize) -> usize
+        requires { p < 2 * self.now.q }
+        ensures value { result ≡ get_or self.now.each p 0 }
+        ensures low { result ≤ width self.now.q }
+    {
+        self.each[p]
+    }
+
+    // The heights after polynomial f has become f - m·x^shift·g.
+    #[tactic(auto, using(crate::proofs::Low::known), unfolding(workarea::specs::Heights::heights_added))]
+    pub fn add(&mut self, f: usize, g: usize, shift: usize)
+        requires { (f < 2 * self.old.q) × (g < 2 * self.old.q) × (shift ≤ most_shift) }
+        ensures q_stays { self.new.q ≡ self.old.q }
+        ensures added { self.new.each ≡ heights_added self.old.q f g shift self.old.each }
+    {
+        let sum = height_of_sum(self.q, self.of(f), self.of(g) + shift);
+        self.each[f] = sum;
+    }
+
+    // The heights after f has become x^shift·f - m·g, and g what f was.
+    #[tactic(auto, using(crate::proofs::Low::known), unfolding(workarea::specs::Heights::heights_exchanged))]
+    pub fn exchange(&mut self, f: usize, g: usize, shift: usize)
+        requires { (f < 2 * self.old.q) × (g < 2 * self.old.q) × (shift ≤ most_shift) }
+        ensures q_stays { self.new.q ≡ self.old.q }
+        ensures exchanged { self.new.each ≡ heights_exchanged self.old.q f g shift self.old.each }
+    {
+        let old = self.of(f);
+        let sum = height_of_sum(self.q, old + shift, self.of(g));
+        self.each[f] = sum;
+        self.each[g] = old;
+    }
 }

@@ -3,78 +3,54 @@
 
 mod tables;
 
-ghost use Rattle.std.specs.Prelude.{◌≡◌, ◌+◌, ◌≤◌, length, replicate};
-ghost use Rattle.symbols.specs.Sizes.{most_symbols};
-ghost use Rattle.symbols.specs.Rule.{Known, symbols, number, symbol};
-ghost use Rattle.symbols.specs.Tables.{product_row, places_on, HasProducts};
-ghost use Rattle.lists.specs.Tables.{put};
+ghost use Rattle.std.specs.Prelude.{◌≡◌, ◌≤◌};
+ghost use Rattle.symbols.specs.Sizes.{most_q};
+ghost use Rattle.symbols.specs.Rule.{Known, Known-prop, symbols, number, symbol};
+ghost use Rattle.symbols.specs.Tables.{product_row, product_table};
 
-use symbols::{MOST_SYMBOLS, TABLE_SIZE};
+use symbols::{MOST_SYMBOLS, SYMBOL_PLACES};
 
-// The n bytes of a table from a start on, and zeros in the other places of a row.
-fn part_of(table: &[u8], start: usize, n: usize) -> [u8; MOST_SYMBOLS]
-    requires { (n ≤ most_symbols) × (start + n ≤ length table.now) }
-    ensures { result ≡ put (replicate most_symbols 0) 0 n (places_on table.now start) }
-{
-    let mut row = [0u8; MOST_SYMBOLS];
-    row[..n].copy_from_slice(&table[start..start + n]);
-    row
+// A known q and the rows of products of its symbols. Who takes many products makes it once and lends it on.
+#[derive(Drop)]
+pub struct Products {
+    pub q: usize,
+    rows: [[u8; MOST_SYMBOLS]; MOST_SYMBOLS],
+    pub ghost known: { Known q } by { Known-prop q },
+    pub ghost small: { q ≤ most_q },
+    ghost complete: { rows ≡ product_table q },
 }
 
-// The places of a row of the largest q, from a start on in its table, copied at once. They are added to zeros: the compiler makes
-// one wide move of such a loop wherever it is used, while it takes a plain copy apart where the row of q = 2 can come in its place.
-fn whole_row(table: &[u8], start: usize) -> [u8; MOST_SYMBOLS]
-    requires { start + most_symbols ≤ length table.now }
-    ensures { result ≡ put (replicate most_symbols 0) 0 most_symbols (places_on table.now start) }
-{
-    let mut row = [0u8; MOST_SYMBOLS];
-    for i in 0..MOST_SYMBOLS {
-        row[i] = row[i] ^ table[start + i];
+impl Products {
+    // The products of q's symbols.
+    pub fn of(q: usize) -> Self
+        requires { Known q }
+        ensures { result.q ≡ q }
+    {
+        let rows = if q == 4 {
+            tables::PRODUCTS_4
+        } else {
+            tables::PRODUCTS_2
+        };
+        Products { q, rows }
     }
-    row
-}
 
-// The table of q in the first places of a list, for callers that take many of its rows.
-pub fn table_of(q: usize) -> [u8; TABLE_SIZE]
-    requires { Known q }
-    ensures { HasProducts q result }
-{
-    if q == 4 {
-        return tables::PRODUCTS_4;
+    // The products of `a` by all symbols, for loops with one factor: place b holds the product by b. A row is found in the same way for
+    // each q, so that it is one move of sixteen bytes.
+    pub fn row(&self, a: u8) -> [u8; MOST_SYMBOLS]
+        ensures { result ≡ product_row self.now.q a }
+    {
+        self.rows[(a % SYMBOL_PLACES) as usize]
     }
-    let mut table = [0u8; TABLE_SIZE];
-    table[..16].copy_from_slice(&tables::PRODUCTS_2);
-    table
-}
 
-// The products of `a` by all symbols, from such a list, for loops with one factor: place b holds the product by b.
-pub fn products_in(table: &[u8], q: usize, a: u8) -> [u8; MOST_SYMBOLS]
-    requires { Known q × HasProducts q table.now }
-    ensures { result ≡ product_row q a }
-{
-    if q == 4 {
-        whole_row(table, (a % 16) as usize * 16)
-    } else {
-        part_of(table, (a % 4) as usize * 4, 4)
+    // The product of two symbols.
+    pub fn product(&self, a: u8, b: u8) -> u8
+        ensures { result ≡ number self.now.q ((symbols self.now.q).◌⊗◌ (symbol self.now.q a) (symbol self.now.q b)) }
+    {
+        let row = self.row(a);
+        if self.q == 4 {
+            row[(b % 16) as usize]
+        } else {
+            row[(b % 4) as usize]
+        }
     }
-}
-
-// The product of two symbols, from such a list.
-pub fn product_in(table: &[u8], q: usize, a: u8, b: u8) -> u8
-    requires { Known q × HasProducts q table.now }
-    ensures { result ≡ number q ((symbols q).◌⊗◌ (symbol q a) (symbol q b)) }
-{
-    if q == 4 {
-        table[(a % 16) as usize * 16 + (b % 16) as usize]
-    } else {
-        table[(a % 4) as usize * 4 + (b % 4) as usize]
-    }
-}
-
-// All products of `a`, for a caller that takes only few.
-pub fn products_of(q: usize, a: u8) -> [u8; MOST_SYMBOLS]
-    requires { Known q }
-    ensures { result ≡ product_row q a }
-{
-    products_in(&table_of(q), q, a)
 }

@@ -4,7 +4,7 @@
 ghost use Rattle.std.specs.Prelude.{◌≡◌, false, List, ◌++◌, map, ℕ, ◌+◌, ◌*◌, ◌<◌, ◌≤◌, length, drop};
 ghost use Rattle.symbols.specs.Sizes.{most_symbols};
 ghost use Rattle.symbols.specs.Rule.{Known, Sym, symbols, symbol, any_beyond};
-ghost use Rattle.symbols.specs.Tables.{product_row, HasProducts};
+ghost use Rattle.symbols.specs.Tables.{product_row};
 ghost use Rattle.curve.specs.Codes.{point_count};
 ghost use Rattle.published.specs.Start.{start};
 ghost use Rattle.published.specs.Picture.{area_size, picture};
@@ -13,6 +13,7 @@ ghost use Rattle.symbols.specs.Tables.{Holds};
 ghost use Rattle.startarea.specs.StartArea.{minus_values, plus_part, column_sum, column_of, columns_of, rows_minus, blank, firsts, begun, multiple_added};
 
 use curve::Powers;
+use products::Products;
 use symbols::{MOST_SYMBOLS, SYMBOL_PLACES};
 use workarea::Row;
 
@@ -55,19 +56,19 @@ fn add_part(
 
 // The received symbols above the x with number a, times the parts in y of their points.
 #[tactic(auto, using(crate::proofs::StartColumns::column_places))]
-fn column_sums(table: &[u8], q: usize, row: &[u8], a: usize) -> [u8; MOST_SYMBOLS]
-    requires known { Known q }
-    requires row_len { (length row.now ≡ point_count q) × (any_beyond q row.now ≡ false) × HasProducts q table.now }
-    requires a_bound { a < q * q }
-    ensures { Holds q result q (column_sum q row.now a q) }
+fn column_sums(products: &Products, row: &[u8], a: usize) -> [u8; MOST_SYMBOLS]
+    requires row_len { (length row.now ≡ point_count products.now.q) × (any_beyond products.now.q row.now ≡ false) }
+    requires a_bound { a < products.now.q * products.now.q }
+    ensures { let q = products.now.q in Holds q result q (column_sum q row.now a q) }
 {
-    let ordinates = ordinates::ordinates(q, products::products_in(table, q, a as u8));
+    let q = products.q;
+    let ordinates = ordinates::ordinates(q, products.row(a as u8));
     let mut sums = [0u8; MOST_SYMBOLS];
     for b in 0..q {
-        let products = products::products_in(table, q, ordinates[b]);
+        let multiples = products.row(ordinates[b]);
         let received = row[a * q + b];
         // a name of its own, since no proof is made where a call's answer is laid in an array
-        let more = add_part(sums, q, q, products, received, received);
+        let more = add_part(sums, q, q, multiples, received, received);
         sums = more;
     }
     sums
@@ -93,39 +94,40 @@ fn subtract_values(
 
 // Subtracts from the lower part of f_0 what the points above the x with number a give to h: the part in x of such a point is
 // 1 - Σ x^i·a^(q²-1-i).
-fn subtract_column(table: &[u8], work: &mut [u8], q: usize, row: &[u8], a: usize)
-    requires area { Area q (length work.old) }
-    requires row_len { (length row.now ≡ point_count q) × (any_beyond q row.now ≡ false) × HasProducts q table.now }
-    requires a_bound { a < q * q }
-    ensures { Turns q work.old work.new (rows_minus q q q q (column_of q row.now a)) }
+fn subtract_column(products: &Products, work: &mut [u8], row: &[u8], a: usize)
+    requires area { Area products.now.q (length work.old) }
+    requires row_len { (length row.now ≡ point_count products.now.q) × (any_beyond products.now.q row.now ≡ false) }
+    requires a_bound { a < products.now.q * products.now.q }
+    ensures { let q = products.now.q in Turns q work.old work.new (rows_minus q q q q (column_of q row.now a)) }
 {
-    let sums = column_sums(table, q, row, a);
-    let powers = products::products_in(table, q, a as u8);
+    let q = products.q;
+    let sums = column_sums(products, row, a);
+    let powers = products.row(a as u8);
     let minus_one = symbols::difference(q, 0, 1);
     let values = add_part([0u8; MOST_SYMBOLS], q, q * q, powers, 1, minus_one);
     for j in 0..q {
-        let products = products::products_in(table, q, sums[j]);
+        let multiples = products.row(sums[j]);
         let to = workarea::row_place(q, q, q + j);
-        subtract_values(work, q, to, q * q, values, products);
+        subtract_values(work, q, to, q * q, values, multiples);
     }
 }
 
 // Subtracts h from the lower part of f_0.
-fn subtract_h(table: &[u8], work: &mut [u8], q: usize, row: &[u8])
-    requires area { Area q (length work.old) }
-    requires row_len { (length row.now ≡ point_count q) × (any_beyond q row.now ≡ false) × HasProducts q table.now }
-    ensures { Turns q work.old work.new (rows_minus q q q q (columns_of q row.now (q * q))) }
+fn subtract_h(products: &Products, work: &mut [u8], row: &[u8])
+    requires area { Area products.now.q (length work.old) }
+    requires row_len { (length row.now ≡ point_count products.now.q) × (any_beyond products.now.q row.now ≡ false) }
+    ensures { let q = products.now.q in Turns q work.old work.new (rows_minus q q q q (columns_of q row.now (q * q))) }
 {
-    for a in 0..q * q {
-        subtract_column(table, work, q, row, a);
+    for a in 0..products.q * products.q {
+        subtract_column(products, work, row, a);
     }
 }
 
 // Adds y^i times a part of polynomial `first` to that of the polynomial i places on.
-fn add_multiple(work: &mut [u8], q: usize, first: usize, row: usize, i: usize)
-    requires area { Area q (length work.old) }
-    requires first_le_q { (first ≤ q) × (row ≤ q) × (0 < i) × (i < q) }
-    ensures { Turns q work.old work.new (multiple_added q first row i) }
+fn add_multiple(products: &Products, work: &mut [u8], first: usize, row: usize, i: usize)
+    requires area { Area products.now.q (length work.old) }
+    requires first_le_q { (first ≤ products.now.q) × (row ≤ products.now.q) × (0 < i) × (i < products.now.q) }
+    ensures { let q = products.now.q in Turns q work.old work.new (multiple_added q first row i) }
 {
     let to = Row {
         polynomial: first + i,
@@ -135,53 +137,49 @@ fn add_multiple(work: &mut [u8], q: usize, first: usize, row: usize, i: usize)
         polynomial: first,
         row,
     };
+    let q = products.q;
     let width = workarea::width_of(q);
     let powers = Powers { x: 0, y: i };
-    substitution::add_product(
-        work,
-        q,
-        to,
-        from,
-        width,
-        powers,
-        products::products_of(q, 1),
-    );
+    substitution::add_product(work, q, to, from, width, powers, products.row(1));
 }
 
 // Makes g_i and f_i of g_0 and f_0; g_i has no upper part.
-fn add_multiples(work: &mut [u8], q: usize, i: usize)
-    requires area { Area q (length work.old) }
-    requires i_nonzero { (0 < i) × (i < q) }
-    ensures { (h : List (List (Sym q))) (rest : List ℕ) → work.old ≡ shown q (begun q h i) ++ rest
+fn add_multiples(products: &Products, work: &mut [u8], i: usize)
+    requires area { Area products.now.q (length work.old) }
+    requires i_nonzero { (0 < i) × (i < products.now.q) }
+    ensures { let q = products.now.q in
+        (h : List (List (Sym q))) (rest : List ℕ) → work.old ≡ shown q (begun q h i) ++ rest
         → work.new ≡ shown q (begun q h (i + 1)) ++ rest }
 {
-    add_multiple(work, q, 0, q, i);
-    add_multiple(work, q, q, 0, i);
-    add_multiple(work, q, q, q, i);
+    let q = products.q;
+    add_multiple(products, work, 0, q, i);
+    add_multiple(products, work, q, 0, i);
+    add_multiple(products, work, q, q, i);
 }
 
 // Makes all of them.
-fn add_all_multiples(work: &mut [u8], q: usize)
-    requires { Area q (length work.old) }
-    ensures { (h : List (List (Sym q))) (rest : List ℕ) → work.old ≡ shown q (begun q h 1) ++ rest
+fn add_all_multiples(products: &Products, work: &mut [u8])
+    requires { Area products.now.q (length work.old) }
+    ensures { let q = products.now.q in
+        (h : List (List (Sym q))) (rest : List ℕ) → work.old ≡ shown q (begun q h 1) ++ rest
         → work.new ≡ shown q (begun q h q) ++ rest }
 {
-    for i in 1..q {
-        add_multiples(work, q, i);
+    for i in 1..products.q {
+        add_multiples(products, work, i);
     }
 }
 
 // Puts the polynomials before the first step on a received row into the work area.
 #[tactic(auto, using(workarea::proofs::Cells::still, workarea::proofs::Sizes::area_of))]
-pub fn begin(table: &[u8], q: usize, row: &[u8], work: &mut [u8])
-    requires known { Known q }
-    requires row_len { (length row.now ≡ point_count q) × (any_beyond q row.now ≡ false) × HasProducts q table.now }
-    requires q_in_bounds { area_size q ≤ length work.old }
-    ensures { work.new
+pub fn begin(products: &Products, row: &[u8], work: &mut [u8])
+    requires row_len { (length row.now ≡ point_count products.now.q) × (any_beyond products.now.q row.now ≡ false) }
+    requires q_in_bounds { area_size products.now.q ≤ length work.old }
+    ensures { let q = products.now.q in work.new
         ≡ picture (symbols q) q (start (symbols q) q (map (symbol q) row.now)) ++ drop (area_size q) work.old }
 {
+    let q = products.q;
     workarea::clear(work, workarea::area_size(q));
     put_firsts(work, q);
-    subtract_h(table, work, q, row);
-    add_all_multiples(work, q);
+    subtract_h(products, work, row);
+    add_all_multiples(products, work);
 }

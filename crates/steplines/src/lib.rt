@@ -12,7 +12,8 @@ ghost use Rattle.steplines.specs.StepLines.{step_lines};
 ghost use Rattle.stepline.specs.StepLine.{step_size};
 ghost use Rattle.steplines.specs.Walk.{Started};
 
-use heights::start_heights;
+use heights::Heights;
+use products::Products;
 use stepline::put_step_line;
 use steps::{step_count, take_step};
 
@@ -24,11 +25,11 @@ pub fn put_steps(out: &mut [u8], at: usize, q: usize, u: usize, work: &mut [u8])
         → Wrote out.old at (step_lines q u row (step_count q)) out.new result }
 {
     let count = step_count(q);
-    let table = products::table_of(q);
-    let mut heights = start_heights(q);
+    let products = Products::of(q);
+    let mut heights = Heights::at_start(q);
     let mut next = at;
     for t in 0..count {
-        let vote = take_step(&table, q, u, t, work, &mut heights);
+        let vote = take_step(&products, u, t, work, &mut heights);
         next = put_step_line(out, next, q, u, count - 1 - t, vote, work);
     }
     next

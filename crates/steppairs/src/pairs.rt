@@ -2,16 +2,17 @@
 ghost use Rattle.std.specs.Prelude.{◌≡◌, false, ℕ, ◌≤◌, ◌<◌, nat_abs, length};
 ghost use Rattle.symbols.specs.Sizes.{most_weight, most_degree};
 ghost use Rattle.symbols.specs.Rule.{Known, Sym, symbols, number};
-ghost use Rattle.symbols.specs.Tables.{HasProducts};
 ghost use Rattle.published.specs.Start.{Polynomials};
 ghost use Rattle.published.specs.Pairing.{k_of, is_negative, is_voted, looked, in_voted_step, in_unvoted_step, pairing};
 ghost use Rattle.workarea.specs.Area.{Area, cells_of, Starts, Narrow};
-ghost use Rattle.workarea.specs.Heights.{Heights, WithinHeights};
+ghost use Rattle.workarea.specs.Heights.{WithinHeights};
 ghost use Rattle.pair.specs.Pairs.{Held, NumbersOf, pair_at};
 ghost use Rattle.steppairs.specs.Named.{NamedAs};
 
 use crate::reading;
+use heights::Heights;
 use pair::Pair;
+use products::Products;
 use symbols::MOST_Q;
 
 // w_i and μ_i.
@@ -50,23 +51,23 @@ fn negative_at(work: &[u8], q: usize, i: usize, partner: usize, k: i64) -> u8
 
 // w_i and μ_i in a step that votes, where `lead` is the leading coefficient of f_i.
 fn in_voted_step(
-    table: &[u8],
+    products: &Products,
     work: &[u8],
-    q: usize,
     i: usize,
     partner: usize,
     k: i64,
     lead: u8,
 ) -> NamedSymbol
-    requires area { Area q (length work.now) × HasProducts q table.now }
-    requires i_lt_q { (i < q) × (partner < q) × (nat_abs k ≤ most_degree) }
-    ensures { (S : Polynomials (symbols q) q) (μ : Sym q) → Narrow q (cells_of q S) → Starts q work.now (cells_of q S)
+    requires area { Area products.now.q (length work.now) }
+    requires i_lt_q { (i < products.now.q) × (partner < products.now.q) × (nat_abs k ≤ most_degree) }
+    ensures { let q = products.now.q in
+        (S : Polynomials (symbols q) q) (μ : Sym q) → Narrow q (cells_of q S) → Starts q work.now (cells_of q S)
         → lead ≡ number q μ → NamedAs q result (in_voted_step (symbols q) q k (looked (symbols q) q S i partner k) μ) }
 {
     if 0 <= k {
-        let negative = negative_at(work, q, i, partner, k);
+        let negative = negative_at(work, products.q, i, partner, k);
         return NamedSymbol {
-            w: products::product_in(table, q, negative, symbols::inverse(q, lead)),
+            w: products.product(negative, symbols::inverse(products.q, lead)),
             mu: lead,
         };
     }
@@ -91,29 +92,30 @@ fn in_unvoted_step(work: &[u8], q: usize, i: usize, partner: usize, k: i64) -> N
 
 // The numbers of pair i at step s, for a step that votes or does not.
 fn pair_of(
-    table: &[u8],
+    products: &Products,
     work: &[u8],
-    q: usize,
-    heights: &[usize],
+    heights: &Heights,
     i: usize,
     s: usize,
     voted: bool,
 ) -> Pair
-    requires area { Area q (length work.now) }
-    requires heights { Heights q heights.now }
-    requires i_lt_q { (i < q) × (s ≤ most_weight) × HasProducts q table.now }
-    ensures held { Held q result }
-    ensures numbers_of { (S : Polynomials (symbols q) q) (u : ℕ) → Narrow q (cells_of q S) → WithinHeights q heights.now (cells_of q S)
+    requires area { Area products.now.q (length work.now) }
+    requires same_q { heights.now.q ≡ products.now.q }
+    requires i_lt_q { (i < products.now.q) × (s ≤ most_weight) }
+    ensures held { Held products.now.q result }
+    ensures numbers_of { let q = products.now.q in
+        (S : Polynomials (symbols q) q) (u : ℕ) → Narrow q (cells_of q S) → WithinHeights q heights.now.each (cells_of q S)
         → Starts q work.now (cells_of q S) → is_voted q u s ≡ voted → NumbersOf q result (pairing (symbols q) q u s S i) }
 {
-    let f = reading::leading_below(work, q, q + i, i, heights[q + i]);
+    let q = products.q;
+    let f = reading::leading_below(work, q, q + i, i, heights.of(q + i));
     let total = q * f.degree + (q + 1) * i + s;
     let partner = curve::remainder(q, total);
     let k = quotient_of(q, total);
     let g = reading::leading_of(work, q, partner, q + partner);
     let c = (g.degree as i64) - k;
     let named = if voted {
-        in_voted_step(table, work, q, i, partner, k, f.coefficient)
+        in_voted_step(products, work, i, partner, k, f.coefficient)
     } else {
         in_unvoted_step(work, q, i, partner, k)
     };
@@ -128,24 +130,24 @@ fn pair_of(
 
 // The numbers of all pairs.
 pub fn pairs_of(
-    table: &[u8],
+    products: &Products,
     work: &[u8],
-    q: usize,
-    heights: &[usize],
+    heights: &Heights,
     s: usize,
     voted: bool,
 ) -> [Pair; MOST_Q]
-    requires area { Area q (length work.now) }
-    requires heights { Heights q heights.now }
-    requires s_le_most_weight { (s ≤ most_weight) × HasProducts q table.now }
-    ensures held { (i : ℕ) → i < q → Held q (pair_at result i) }
-    ensures numbers_of { (S : Polynomials (symbols q) q) (u : ℕ) → Narrow q (cells_of q S) → WithinHeights q heights.now (cells_of q S)
+    requires area { Area products.now.q (length work.now) }
+    requires same_q { heights.now.q ≡ products.now.q }
+    requires s_le_most_weight { s ≤ most_weight }
+    ensures held { (i : ℕ) → i < products.now.q → Held products.now.q (pair_at result i) }
+    ensures numbers_of { let q = products.now.q in
+        (S : Polynomials (symbols q) q) (u : ℕ) → Narrow q (cells_of q S) → WithinHeights q heights.now.each (cells_of q S)
         → Starts q work.now (cells_of q S) → is_voted q u s ≡ voted
         → (i : ℕ) → i < q → NumbersOf q (pair_at result i) (pairing (symbols q) q u s S i) }
 {
     let mut pairs = [Pair::default(); MOST_Q];
-    for i in 0..q {
-        pairs[i] = pair_of(table, work, q, heights, i, s, voted);
+    for i in 0..products.q {
+        pairs[i] = pair_of(products, work, heights, i, s, voted);
     }
     pairs
 }

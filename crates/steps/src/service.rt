@@ -1,7 +1,6 @@
 // The stop service: any number of steps on a received row, with the picture and the votes that they leave.
 ghost use Rattle.std.specs.Prelude.{◌≡◌, List, ◌++◌, ℕ, ◌+◌, ◌-◌, ◌<◌, ◌≤◌, length, drop, OnOk};
 ghost use Rattle.symbols.specs.Rule.{Known, symbols};
-ghost use Rattle.symbols.specs.Tables.{HasProducts};
 ghost use Rattle.curve.specs.Codes.{dimension};
 ghost use Rattle.curve.specs.Given.{Valid, Received};
 ghost use Rattle.published.specs.Start.{step_count};
@@ -12,6 +11,8 @@ ghost use Rattle.steps.specs.Stop.{picture_after, votes_after, stop_answer, stop
 
 use crate::step;
 use curve::Code;
+use heights::Heights;
+use products::Products;
 use refusals::Refusal;
 
 // Puts the vote of the step after `done` steps in its place among the votes by rising non-gap, if that step votes. The places
@@ -31,8 +32,9 @@ fn note_vote(q: usize, u: usize, done: usize, left: usize, vote: u8, votes: &mut
 }
 
 // Does the first steps, from the start on.
-fn take_steps(table: &[u8], code: Code, steps: usize, work: &mut [u8], votes: &mut [u8])
-    requires valid { Valid code × (steps ≤ step_count code.q) × HasProducts code.q table.now }
+fn take_steps(products: &Products, code: Code, steps: usize, work: &mut [u8], votes: &mut [u8])
+    requires valid { Valid code × (steps ≤ step_count code.q) }
+    requires same_q { products.now.q ≡ code.q }
     requires q_in_bounds { (area_size code.q ≤ length work.old) × (dimension code.q code.u ≤ length votes.old) }
     ensures { (row rest rest' : List ℕ) → work.old ≡ picture_after code.q code.u row 0 ++ rest
         → votes.old ≡ votes_after code.q code.u row 0 ++ rest'
@@ -41,9 +43,9 @@ fn take_steps(table: &[u8], code: Code, steps: usize, work: &mut [u8], votes: &m
     let q = code.q;
     let u = code.u;
     let mut left = code.k;
-    let mut heights = heights::start_heights(q);
+    let mut heights = Heights::at_start(q);
     for done in 0..steps {
-        let vote = step::take_step(table, q, u, done, work, &mut heights);
+        let vote = step::take_step(products, u, done, work, &mut heights);
         left = note_vote(q, u, done, left, vote, votes);
     }
 }
@@ -55,10 +57,10 @@ pub fn advance(code: Code, steps: usize, row: &[u8], work: &mut [u8], votes: &mu
     ensures work_left { work.new ≡ picture_after code.q code.u row.now steps ++ drop (area_size code.q) work.old }
     ensures votes_left { votes.new ≡ votes_after code.q code.u row.now steps ++ drop (dimension code.q code.u) votes.old }
 {
-    let table = products::table_of(code.q);
-    startarea::begin(&table, code.q, row, work);
+    let products = Products::of(code.q);
+    startarea::begin(&products, row, work);
     workarea::clear(votes, code.k);
-    take_steps(&table, code, steps, work, votes);
+    take_steps(&products, code, steps, work, votes);
 }
 
 // Stopping under a code: refused with 3 to 7, or done.

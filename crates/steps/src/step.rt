@@ -1,12 +1,13 @@
 // One step of the published decoder on a picture in the work area.
 ghost use Rattle.std.specs.Prelude.{◌≡◌, List, ◌++◌, ℕ, ◌+◌, ◌<◌, ◌≤◌, length};
 ghost use Rattle.symbols.specs.Rule.{Known};
-ghost use Rattle.symbols.specs.Tables.{HasProducts};
 ghost use Rattle.published.specs.Start.{start_weight, step_count};
 ghost use Rattle.published.specs.Picture.{area_size};
 ghost use Rattle.steps.specs.Stop.{picture_after};
-ghost use Rattle.workarea.specs.Heights.{Heights};
 ghost use Rattle.steps.specs.Step.{Stepped, BelowAfter};
+
+use heights::Heights;
+use products::Products;
 
 // The weight of the first step.
 #[tactic(auto, using(workarea::proofs::Sizes::sizes), unfolding(published::specs::Start::start_weight))]
@@ -29,24 +30,25 @@ pub fn step_count(q: usize) -> usize
 // Does the step after `done` steps and gives its vote, 0 where there is none.
 #[tactic(auto, using(workarea::proofs::Sizes::area_of), unfolding(published::specs::Start::step_count))]
 pub fn take_step(
-    table: &[u8],
-    q: usize,
+    products: &Products,
     u: usize,
     done: usize,
     work: &mut [u8],
-    heights: &mut [usize],
+    heights: &mut Heights,
 ) -> u8
-    requires known { Known q × (area_size q ≤ length work.old) × (done < step_count q) × HasProducts q table.now }
-    requires heights { Heights q heights.old }
-    ensures heights_left { Heights q heights.new }
-    ensures stepped { (row : List ℕ) (rest : List ℕ) → work.old ≡ picture_after q u row done ++ rest → BelowAfter q u row done heights.old
-        → Stepped q u row done rest result work.new × BelowAfter q u row (done + 1) heights.new }
+    requires room { (area_size products.now.q ≤ length work.old) × (done < step_count products.now.q) }
+    requires same_q { heights.old.q ≡ products.now.q }
+    ensures q_stays { heights.new.q ≡ heights.old.q }
+    ensures stepped { let q = products.now.q in
+        (row : List ℕ) (rest : List ℕ) → work.old ≡ picture_after q u row done ++ rest → BelowAfter q u row done heights.old.each
+        → Stepped q u row done rest result work.new × BelowAfter q u row (done + 1) heights.new.each }
 {
+    let q = products.q;
     let s = start_weight(q) - done;
     let voted = stepvotes::is_voted(q, u, s);
-    let pairs = steppairs::pairs_of(table, &work[..], q, &heights[..], s, voted);
+    let pairs = steppairs::pairs_of(products, &work[..], heights, s, voted);
     let vote = stepvotes::vote_of(pairs, q, voted);
-    substitution::substitute(table, work, q, &heights[..], s, vote);
-    updates::change_all(table, work, q, heights, pairs, vote);
+    substitution::substitute(products, work, heights, s, vote);
+    updates::change_all(products, work, heights, pairs, vote);
     vote
 }

@@ -5,7 +5,6 @@ ghost use Rattle.std.specs.Prelude.{◌≡◌, ◌+◌, ◌*◌, ◌<◌, ◌≤
 ghost use Rattle.algebra.specs.Weights.{gap};
 ghost use Rattle.symbols.specs.Sizes.{most_q, most_degree};
 ghost use Rattle.symbols.specs.Rule.{symbols, Sym, number};
-ghost use Rattle.symbols.specs.Tables.{HasProducts};
 ghost use Rattle.published.specs.Start.{Polynomials};
 ghost use Rattle.published.specs.Steps.{substituted};
 ghost use Rattle.workarea.specs.Area.{Area, cells_of, Turns, Becomes, Multiplies};
@@ -13,6 +12,8 @@ ghost use Rattle.substitution.specs.Products.{Apart, source_row, source_shift, p
 ghost use Rattle.workarea.specs.Heights.{WithinHeights};
 
 use curve::Powers;
+use heights::Heights;
+use products::Products;
 use symbols::MOST_SYMBOLS;
 use workarea::{Row, Sign};
 
@@ -119,15 +120,15 @@ pub fn add_product(
 pub fn replace_z(
     work: &mut [u8],
     q: usize,
-    heights: &[usize],
+    heights: &Heights,
     powers: Powers,
     products: [u8; MOST_SYMBOLS],
 )
     requires area { Area q (length work.old) }
-    requires q_in_bounds { 2 * q ≤ length heights.now }
+    requires same_q { heights.now.q ≡ q }
     requires y_lt_q { (powers.y < q) × (powers.x ≤ most_degree) }
     ensures { (ρ : Sym q) → Multiplies q products ρ
-        → Turns q work.old work.new (replaced_z q heights.now powers.x powers.y ρ (2 * q)) }
+        → Turns q work.old work.new (replaced_z q heights.now.each powers.x powers.y ρ (2 * q)) }
 {
     for p in 0..2 * q {
         let upper = Row {
@@ -138,24 +139,24 @@ pub fn replace_z(
             polynomial: p,
             row: q,
         };
-        add_product(work, q, lower, upper, heights[p], powers, products);
+        add_product(work, q, lower, upper, heights.of(p), powers, products);
     }
 }
 
 // z becomes z + vote·(monomial of s) in all polynomials, and nothing changes for a vote of 0.
-pub fn substitute(table: &[u8], work: &mut [u8], q: usize, heights: &[usize], s: usize, vote: u8)
-    requires area { Area q (length work.old) }
-    requires q_in_bounds { 2 * q ≤ length heights.now }
-    requires s_le_most_degree { (s ≤ most_degree) × ((vote ≡ 0 → ⊥) → gap q s ≡ false) × HasProducts q table.now }
-    ensures { (S : Polynomials (symbols q) q) (ω : Sym q) → vote ≡ number q ω → WithinHeights q heights.now (cells_of q S)
+pub fn substitute(products: &Products, work: &mut [u8], heights: &Heights, s: usize, vote: u8)
+    requires area { Area products.now.q (length work.old) }
+    requires same_q { heights.now.q ≡ products.now.q }
+    requires s_le_most_degree { (s ≤ most_degree) × ((vote ≡ 0 → ⊥) → gap products.now.q s ≡ false) }
+    ensures { let q = products.now.q in
+        (S : Polynomials (symbols q) q) (ω : Sym q) → vote ≡ number q ω → WithinHeights q heights.now.each (cells_of q S)
         → Becomes q work.old work.new S (substituted (symbols q) q s ω S) }
 {
     if vote == 0 {
         return;
     }
-    let Some(powers) = curve::monomial_of(q, s) else {
+    let Some(powers) = curve::monomial_of(products.q, s) else {
         return;
     };
-    let products = products::products_in(table, q, vote);
-    replace_z(work, q, heights, powers, products);
+    replace_z(work, products.q, heights, powers, products.row(vote));
 }

@@ -2,7 +2,8 @@
 -- A symbol is a number below q²; each operation ends by taking the remainder, so that it needs no proof of its own.
 -- Assumes nothing.
 use Rattle.std.specs.Prelude.{◌≡◌, ◌⊎◌, Bool, false, cond, ◌||◌, List, [], ◌∷◌, ℕ, zero, suc, ◌*◌, ◌-◌, ◌/◌, ◌%◌, ◌<◌, leb, ltb, eqb}
-use Rattle.std.proofs.Common.{mod-lt, arith}
+use Rattle.std.proofs.Common.{mod-lt, arith, ap, inl, inr}
+use Rattle.std.specs.Coded.{Coded-set, coded_ℕ}
 use Rattle.std.specs.Int.Bits.{bit_xor}
 use Rattle.algebra.specs.Symbols.{Symbols}
 
@@ -13,6 +14,14 @@ is_known q = eqb q 2 || eqb q 4
 -- the same as a fact
 unfoldable pub Known : ℕ → Type 0
 Known q = (q ≡ 2) ⊎ (q ≡ 4)
+
+-- it holds in one way at most, so that a type can keep it
+pub Known-prop : (q : ℕ) → IsProp (Known q)
+unfolding Known
+Known-prop q (inl a) (inl b) = ap inl (Coded-set coded_ℕ q 2 a b)
+Known-prop q (inl a) (inr b) = absurd (omega (arith, a, b))
+Known-prop q (inr a) (inl b) = absurd (omega (arith, a, b))
+Known-prop q (inr a) (inr b) = ap inr (Coded-set coded_ℕ q 4 a b)
 
 -- how many symbols there are: q², and one even for q = 0, so that there always is a symbol 0
 unfoldable pub size : ℕ → ℕ

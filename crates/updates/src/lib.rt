@@ -4,16 +4,17 @@
 ghost use Rattle.std.specs.Prelude.{◌≡◌, ℕ, ◌*◌, ◌<◌, length};
 ghost use Rattle.lists.specs.Tables.{tab};
 ghost use Rattle.symbols.specs.Rule.{Known, symbols, Sym, number};
-ghost use Rattle.symbols.specs.Tables.{HasProducts};
 ghost use Rattle.published.specs.Start.{Polynomials};
 ghost use Rattle.published.specs.Pairing.{Pairing};
 ghost use Rattle.published.specs.Steps.{ratio, changed, updated};
 ghost use Rattle.workarea.specs.Area.{Area, cells_of, Turns, Multiplies};
 ghost use Rattle.updates.specs.Updates.{row_height, polynomial_reduced, polynomials_exchanged};
-ghost use Rattle.workarea.specs.Heights.{Heights, WithinHeights, BecomesBelow};
+ghost use Rattle.workarea.specs.Heights.{WithinHeights, BecomesBelow};
 ghost use Rattle.pair.specs.Pairs.{Held, NumbersOf, pair_at};
 
+use heights::Heights;
 use pair::Pair;
+use products::Products;
 use symbols::{MOST_Q, MOST_SYMBOLS};
 use workarea::{Row, Sign};
 
@@ -74,70 +75,69 @@ fn exchange_polynomials(
 }
 
 // r = μ_i(w - w_i)/ν.
-fn ratio_of(table: &[u8], q: usize, vote: u8, w: u8, mu: u8, nu: u8) -> u8
-    requires { Known q × HasProducts q table.now }
-    ensures { (ω : Sym q) (P : Pairing (symbols q) q) → vote ≡ number q ω → w ≡ number q P.w → mu ≡ number q P.μ → nu ≡ number q P.ν
+fn ratio_of(products: &Products, vote: u8, w: u8, mu: u8, nu: u8) -> u8
+    ensures { let q = products.now.q in
+        (ω : Sym q) (P : Pairing (symbols q) q) → vote ≡ number q ω → w ≡ number q P.w → mu ≡ number q P.μ → nu ≡ number q P.ν
         → result ≡ number q (ratio (symbols q) q ω P) }
 {
-    let difference = symbols::difference(q, vote, w);
-    let product = products::product_in(table, q, mu, difference);
-    let inverse = symbols::inverse(q, nu);
-    products::product_in(table, q, product, inverse)
+    let difference = symbols::difference(products.q, vote, w);
+    let product = products.product(mu, difference);
+    products.product(product, symbols::inverse(products.q, nu))
 }
 
 // What pair i does after the substitution: an exchange where c > 0, else f_i is reduced; the shift is c without its sign.
 fn change(
-    table: &[u8],
+    products: &Products,
     work: &mut [u8],
-    q: usize,
-    heights: &mut [usize],
+    heights: &mut Heights,
     i: usize,
     pair: Pair,
     vote: u8,
 )
-    requires area { Area q (length work.old) }
-    requires heights { Heights q heights.old }
-    requires i_lt_q { (i < q) × Held q pair × HasProducts q table.now }
-    ensures heights_left { Heights q heights.new }
-    ensures becomes_below { (S : Polynomials (symbols q) q) (ω : Sym q) (P : Pairing (symbols q) q) → vote ≡ number q ω → NumbersOf q pair P
-        → WithinHeights q heights.old (cells_of q S)
-        → BecomesBelow q work.old work.new S (changed (symbols q) q ω i P S) heights.new }
+    requires area { Area products.now.q (length work.old) }
+    requires same_q { heights.old.q ≡ products.now.q }
+    requires i_lt_q { (i < products.now.q) × Held products.now.q pair }
+    ensures q_stays { heights.new.q ≡ heights.old.q }
+    ensures becomes_below { let q = products.now.q in
+        (S : Polynomials (symbols q) q) (ω : Sym q) (P : Pairing (symbols q) q) → vote ≡ number q ω → NumbersOf q pair P
+        → WithinHeights q heights.old.each (cells_of q S)
+        → BecomesBelow q work.old work.new S (changed (symbols q) q ω i P S) heights.new.each }
 {
     if pair.w == vote {
         return;
     }
-    let ratio = ratio_of(table, q, vote, pair.w, pair.mu, pair.nu);
-    let products = products::products_in(table, q, ratio);
+    let q = products.q;
+    let row = products.row(ratio_of(products, vote, pair.w, pair.mu, pair.nu));
     let f = q + i;
     let g = pair.partner;
     let shift = pair.c.unsigned_abs() as usize;
     if 0 < pair.c {
-        exchange_polynomials(work, q, f, g, shift, products);
-        heights::exchange_heights(heights, q, f, g, shift);
+        exchange_polynomials(work, q, f, g, shift, row);
+        heights.exchange(f, g, shift);
     } else {
-        reduce_polynomial(work, q, f, g, heights[g], shift, products);
-        heights::add_heights(heights, q, f, g, shift);
+        reduce_polynomial(work, q, f, g, heights.of(g), shift, row);
+        heights.add(f, g, shift);
     }
 }
 
 // The update of all pairs.
 pub fn change_all(
-    table: &[u8],
+    products: &Products,
     work: &mut [u8],
-    q: usize,
-    heights: &mut [usize],
+    heights: &mut Heights,
     pairs: [Pair; MOST_Q],
     vote: u8,
 )
-    requires area { Area q (length work.old) }
-    requires heights { Heights q heights.old }
-    requires held { ((i : ℕ) → i < q → Held q (pair_at pairs i)) × HasProducts q table.now }
-    ensures heights_left { Heights q heights.new }
-    ensures becomes_below { (S : Polynomials (symbols q) q) (ω : Sym q) (P : ℕ → Pairing (symbols q) q) → vote ≡ number q ω
-        → ((i : ℕ) → i < q → NumbersOf q (pair_at pairs i) (P i)) → WithinHeights q heights.old (cells_of q S)
-        → BecomesBelow q work.old work.new S (updated (symbols q) q ω (tab q P) S q) heights.new }
+    requires area { Area products.now.q (length work.old) }
+    requires same_q { heights.old.q ≡ products.now.q }
+    requires held { (i : ℕ) → i < products.now.q → Held products.now.q (pair_at pairs i) }
+    ensures q_stays { heights.new.q ≡ heights.old.q }
+    ensures becomes_below { let q = products.now.q in
+        (S : Polynomials (symbols q) q) (ω : Sym q) (P : ℕ → Pairing (symbols q) q) → vote ≡ number q ω
+        → ((i : ℕ) → i < q → NumbersOf q (pair_at pairs i) (P i)) → WithinHeights q heights.old.each (cells_of q S)
+        → BecomesBelow q work.old work.new S (updated (symbols q) q ω (tab q P) S q) heights.new.each }
 {
-    for (i, pair) in pairs[..q].iter().enumerate() {
-        change(table, work, q, heights, i, *pair, vote);
+    for (i, pair) in pairs[..products.q].iter().enumerate() {
+        change(products, work, heights, i, *pair, vote);
     }
 }

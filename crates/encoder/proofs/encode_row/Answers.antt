@@ -3,7 +3,6 @@ use mathlib.Core.Path.{◌≡◌, refl, sym, ◌∙◌}
 use Prim.Native.Nat.{◌+◌, ◌*◌, ◌/◌, ◌<◌}
 use native.Mathlib.Nat.{div-le_self, zero-mul}
 use native.Mathlib.Omega.{arith}
-use lib.ListN.{length}
 use borrow.Author.Rules.{rules}
 use Rattle.lists.proofs.Put.{put-none}
 use Rattle.symbols.proofs.Bytes.{known-positive, square-small}
@@ -12,11 +11,6 @@ use Rattle.curve.proofs.CodeLaws.{code_below}
 use Rattle.encoder.proofs.RowNumbers.{function, spread-function}
 use Rattle.encoder.proofs.Written.{width_small, column-holds, next-column, all-columns}
 use Rattle.encoder.proofs.encode_row.Goals as goal
-use Rattle.encoder.proofs.encode_row.Goals.{At-loop-x}
-
--- the list that starts with the table has its 256 places
-table-long : (c : At-loop-x) → 256 ≡ length c.table_of-table.result
-table-long c = sym c.table_of-table.ensures.long
 
 pub spread-places-requires : goal.spread-places-requires
 spread-places-requires c =
@@ -46,17 +40,12 @@ pub overflow_cast-x : goal.overflow_cast-x
 overflow_cast-x c = omega (arith, square-small _ c.requires.0.known)
 
 pub column-values-requires : goal.column-values-requires
-column-values-requires c = (
-  c.requires.0.known,
-  omega arith,
-  omega (
-    arith,
-    width_small c.args.code.q c.args.code.u c.requires.0.known
-        (code_below _ _ c.requires.0.accepted),
-  ),
-  search rules,
-  c.table_of-table.ensures,
-)
+column-values-requires c =
+    (omega (arith, width_small c.args.code.q c.args.code.u c.requires.0.known (code_below _ _ c.requires.0.accepted)), search rules)
+
+pub fill_fibre-requires : goal.fill_fibre-requires
+fill_fibre-requires c =
+    rw c.of-products.ensures (c.loop-x-test.true, search rules, omega (arith, c.loop-x.invariant.0, c.requires.2))
 
 pub loop-x-preserved : goal.loop-x-preserved
 loop-x-preserved c =
@@ -71,9 +60,9 @@ loop-x-preserved c =
     c.spread-places.ensures in
     let values = c.column-values in
     let more : c.loop-x.x < q * q = c.loop-x-test.true in
-    let held = column-holds q k f (u / q + 1) c.loop-x.x values.result (values.ensures f places) in (
+    let held = column-holds q k f (u / q + 1) c.loop-x.x values.result ((rw c.of-products.ensures at values.ensures) f places) in (
       c.fill_fibre.auto.row ∙ c.loop-x.invariant.0,
-      c.fill_fibre.ensures _ held
+      (rw c.of-products.ensures at c.fill_fibre.ensures) _ held
           ∙ (rw c.loop-x.invariant.1 (next-column q u message k small c.args.row.now c.loop-x.x more)),
     )
 

@@ -10,4 +10,4 @@ use Rattle.evaluation.proofs.column.Given as goal
 
 abbrev pub invariant-loop-j : goal.invariant-loop-j
 invariant-loop-j l =
-    (f : Fn (symbols l.q) l.q) → HoldsFunction l.q f l.places → l.values ≡ put (replicate most_q 0) 0 l.j (column_number l.q f l.width l.x)
+    (f : Fn (symbols l.products.q) l.products.q) → HoldsFunction l.products.q f l.places → l.values ≡ put (replicate most_q 0) 0 l.j (column_number l.products.q f l.width l.x)

@@ -9,4 +9,4 @@ use Rattle.evaluation.proofs.fill_fibre.Given as goal
 
 abbrev pub invariant-loop-b : goal.invariant-loop-b
 invariant-loop-b l =
-    (v : ℕ → Sym l.q) → Holds l.q l.values l.q v → l.row ≡ put l.initial.row (l.x * l.q) l.b (fibre_number l.q v l.x)
+    (v : ℕ → Sym l.products.q) → Holds l.products.q l.values l.products.q v → l.row ≡ put l.initial.row (l.x * l.products.q) l.b (fibre_number l.products.q v l.x)

@@ -10,4 +10,4 @@ use Rattle.startarea.proofs.add_all_multiples.Given as goal
 
 abbrev pub invariant-loop-i : goal.invariant-loop-i
 invariant-loop-i l =
-    (H : List (List (Sym l.q))) (rest : List ℕ) → l.initial.work ≡ shown l.q (begun l.q H 1) ++ rest → l.work ≡ shown l.q (begun l.q H l.i) ++ rest
+    (H : List (List (Sym l.products.q))) (rest : List ℕ) → l.initial.work ≡ shown l.products.q (begun l.products.q H 1) ++ rest → l.work ≡ shown l.products.q (begun l.products.q H l.i) ++ rest

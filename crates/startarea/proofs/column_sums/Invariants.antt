@@ -5,4 +5,4 @@ use Rattle.startarea.specs.StartArea.{column_sum}
 use Rattle.startarea.proofs.column_sums.Given as goal
 
 abbrev pub invariant-loop-b : goal.invariant-loop-b
-invariant-loop-b l = Holds l.q l.sums l.q (column_sum l.q l.row l.a l.b)
+invariant-loop-b l = Holds l.products.q l.sums l.products.q (column_sum l.products.q l.row l.a l.b)

@@ -18,15 +18,15 @@ loop-j-init c = turns_same _ (λ S p r i hp hr hi. minus-none _ c.requires.area.
 
 pub subtract_values-requires : goal.subtract_values-requires
 subtract_values-requires c =
-    let fits = row_fits c.args.q (c.args.q + c.loop-j.j) c.requires.area (omega (arith, c.requires.area.some)) (omega (arith, c.loop-j-test.true)) in
+    let fits = row_fits c.args.products.now.q (c.args.products.now.q + c.loop-j.j) c.requires.area (omega (arith, c.requires.area.some)) (omega (arith, c.loop-j-test.true)) in
     omega (arith, fits, sizes _ c.requires.area.known)
 
 pub loop-j-preserved : goal.loop-j-preserved
 loop-j-preserved c =
     let known = c.requires.area.known in
     let j = c.loop-j-test.true in
-    let values = x-values _ known _ _ (λ F held. rw c.difference-minus_one.ensures at (c.add_part-values.ensures _ F c.products_in-powers.ensures held)) in
+    let values = x-values _ known _ _ (λ F held. rw c.difference-minus_one.ensures at (c.add_part-values.ensures _ F c.row-powers.ensures held)) in
     turns_same _ (λ S p r i hp hr hi. minus-more _ known _ _ _ S _ p r i)
     (turns-both _ c.loop-j.invariant
     (column-turns _ known _ _ _ _ _ _ _ _ _ _ _ values (omega (arith, c.requires.area.some)) (omega arith) (c.column_sums-sums.ensures.at _ j)
-    c.row_place-to.ensures c.products_in-products.ensures c.subtract_values.ensures))
+    c.row_place-to.ensures c.row-multiples.ensures c.subtract_values.ensures))

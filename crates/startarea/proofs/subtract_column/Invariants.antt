@@ -5,4 +5,4 @@ use Rattle.startarea.specs.StartArea.{column_of, rows_minus}
 use Rattle.startarea.proofs.subtract_column.Given as goal
 
 abbrev pub invariant-loop-j : goal.invariant-loop-j
-invariant-loop-j l = Turns l.q l.initial.work l.work (rows_minus l.q l.q l.q l.j (column_of l.q l.row l.a))
+invariant-loop-j l = Turns l.products.q l.initial.work l.work (rows_minus l.products.q l.products.q l.products.q l.j (column_of l.products.q l.row l.a))

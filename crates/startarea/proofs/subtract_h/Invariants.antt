@@ -5,4 +5,4 @@ use Rattle.startarea.specs.StartArea.{columns_of, rows_minus}
 use Rattle.startarea.proofs.subtract_h.Given as goal
 
 abbrev pub invariant-loop-a : goal.invariant-loop-a
-invariant-loop-a l = Turns l.q l.initial.work l.work (rows_minus l.q l.q l.q l.q (columns_of l.q l.row l.a))
+invariant-loop-a l = Turns l.products.q l.initial.work l.work (rows_minus l.products.q l.products.q l.products.q l.products.q (columns_of l.products.q l.row l.a))

@@ -1,5 +1,5 @@
 -- `steplines::put_steps` meets its contract: the goals that the check leaves open. Assumes nothing.
-use mathlib.Core.Path.{refl, ◌∙◌}
+use mathlib.Core.Path.{refl, sym, ◌∙◌}
 use mathlib.Core.List.{List}
 use Prim.Native.Nat.{ℕ, ◌+◌, ◌*◌, ◌≤◌, ◌<◌}
 use native.Mathlib.Nat.{mul-le-mul_right}
@@ -8,14 +8,13 @@ use lib.ListN.{length}
 use Rattle.lines.proofs.Writing.{wrote_nothing}
 use Rattle.published.specs.Start.{step_count}
 use Rattle.workarea.proofs.Sizes.{area_of}
-use Rattle.workarea.proofs.HeightLaws.{start-many}
 use Rattle.steps.proofs.StartHeights.{below-start}
 use Rattle.steplines.specs.StepLines.{step_lines}
 use Rattle.stepline.specs.StepLine.{step_size}
 use Rattle.steplines.proofs.Lengths.{length-steps}
 use Rattle.steplines.proofs.Walked.{weight_is, next-state, reached-more}
 use Rattle.steplines.proofs.put_steps.Goals as goal
-use Rattle.steplines.proofs.put_steps.Goals.{After-take_step-vote, At-loop-t}
+use Rattle.steplines.proofs.put_steps.Goals.{In-loop-t, At-loop-t}
 
 -- the lines of t steps fit, and one more where one more is due
 lines_fit : (c : At-loop-t) (row : List ℕ)
@@ -30,13 +29,13 @@ line-fits : (c : At-loop-t) → c.loop-t.t < step_count c.args.q
 line-fits c more =
     let a = c.args in
     let begun = c.requires.started in
-    let reached = c.loop-t.invariant.4 begun.row begun.shows in
+    let reached = c.loop-t.invariant.3 begun.row begun.shows in
     let lines = length-steps a.q a.u begun.row c.loop-t.t in
     let room : (c.loop-t.t + 1) * step_size a.q ≤ step_count a.q * step_size a.q = mul-le-mul_right (step_size a.q) (omega arith) in
     omega (arith, lines, room, reached.lines.place, c.loop-t.invariant.0, c.requires.known.2)
 
 -- the step that is taken is one of those that there are
-step-due : (c : After-take_step-vote)
+step-due : (c : In-loop-t)
     → c.loop-t.t < step_count c.args.q
 step-due c =
     omega (arith, c.loop-t-test.true, c.step_count-count.ensures)
@@ -45,18 +44,22 @@ pub loop-t-init : goal.loop-t-init
 unfolding step_lines
 loop-t-init c =
     let a = c.args in
-    let known = c.requires.known.0 in
-    let heights = c.start_heights-heights.ensures in (
+    let start = c.at_start-heights.ensures in (
       refl,
       refl,
-      start-many a.q c.start_heights-heights.result known heights,
-      heights.long,
+      start.0,
       λ row shows. record {
         shows = shows;
         lines = wrote_nothing a.out.now a.at;
-        below = below-start a.q known c.start_heights-heights.result heights a.u row;
+        below = below-start a.q c.requires.known.0 c.at_start-heights.result.each start.1 a.u row;
       },
     )
+
+pub take_step-vote-requires : goal.take_step-vote-requires
+take_step-vote-requires c = record {
+  room = rw c.of-products.ensures (omega (arith, c.loop-t.invariant.1, c.requires.known.1), step-due (goal.at.take_step-vote-requires c).In-loop-t);
+  same_q = c.loop-t.invariant.2 ∙ sym c.of-products.ensures;
+}
 
 pub put_step_line-next-requires-clause-area : goal.put_step_line-next-requires-clause-area
 put_step_line-next-requires-clause-area c =
@@ -65,15 +68,15 @@ put_step_line-next-requires-clause-area c =
 pub put_step_line-next-requires-clause-s_bound : goal.put_step_line-next-requires-clause-s_bound
 put_step_line-next-requires-clause-s_bound c =
     let weight = weight_is c.args.q c.loop-t.t c.step_count-count.ensures in
-    let taken = step-due (goal.at.put_step_line-next-requires-clause-s_bound c).After-take_step-vote in
+    let taken = step-due (goal.at.put_step_line-next-requires-clause-s_bound c).In-loop-t in
     (omega (arith, weight), line-fits (goal.at.put_step_line-next-requires-clause-s_bound c).At-loop-t taken)
 
 pub put_step_line-next-requires-clause-shown : goal.put_step_line-next-requires-clause-shown
 put_step_line-next-requires-clause-shown c =
     let a = c.args in
     let begun = c.requires.started in
-    let after = next-state a.q a.u begun.row c.loop-t.t _ (step-due (goal.at.put_step_line-next-requires-clause-shown c).After-take_step-vote)
-    (weight_is a.q c.loop-t.t c.step_count-count.ensures) (c.loop-t.invariant.4 begun.row begun.shows) c.take_step-vote.ensures.stepped in
+    let after = next-state a.q a.u begun.row c.loop-t.t _ (step-due (goal.at.put_step_line-next-requires-clause-shown c).In-loop-t)
+    (weight_is a.q c.loop-t.t c.step_count-count.ensures) (c.loop-t.invariant.3 begun.row begun.shows) (rw c.of-products.ensures at c.take_step-vote.ensures.stepped) in
     record { state = _; shows = after.0; voted = after.1 }
 
 pub loop-t-preserved : goal.loop-t-preserved
@@ -81,9 +84,8 @@ loop-t-preserved c =
     let a = c.args in (
       c.put_step_line-next.auto.out ∙ c.loop-t.invariant.0,
       c.take_step-vote.auto.work ∙ c.loop-t.invariant.1,
-      c.take_step-vote.ensures.heights_left,
-      c.take_step-vote.auto.heights ∙ c.loop-t.invariant.3,
-      λ row shows. reached-more a.q a.u row c.loop-t.t _ (step-due (goal.at.loop-t-preserved c).After-take_step-vote)
-          (weight_is a.q c.loop-t.t c.step_count-count.ensures) (lines_fit (goal.at.loop-t-preserved c).At-loop-t row) (c.loop-t.invariant.4 row shows)
-          c.take_step-vote.ensures.stepped c.put_step_line-next.ensures,
+      c.take_step-vote.ensures.q_stays ∙ c.loop-t.invariant.2,
+      λ row shows. reached-more a.q a.u row c.loop-t.t _ (step-due (goal.at.loop-t-preserved c).In-loop-t)
+          (weight_is a.q c.loop-t.t c.step_count-count.ensures) (lines_fit (goal.at.loop-t-preserved c).At-loop-t row) (c.loop-t.invariant.3 row shows)
+          (rw c.of-products.ensures at c.take_step-vote.ensures.stepped) c.put_step_line-next.ensures,
     )

@@ -5,14 +5,12 @@ use mathlib.Core.Path.{◌≡◌}
 use mathlib.Core.List.{List}
 use Prim.Native.Nat.{ℕ}
 use lib.ListN.{length}
-use Rattle.symbols.specs.Sizes.{most_polynomials}
 use Rattle.workarea.specs.Area.{Starts, cells_of}
-use Rattle.workarea.specs.Heights.{Heights}
 use Rattle.steps.specs.Stop.{state_after}
 use Rattle.steplines.proofs.Walked.{Reached}
 use Rattle.steplines.proofs.put_steps.Given as goal
 
 abbrev pub invariant-loop-t : goal.invariant-loop-t
 invariant-loop-t l =
-    (length l.out ≡ length l.initial.out) × (length l.work ≡ length l.initial.work) × Heights l.q l.heights × (length l.heights ≡ most_polynomials)
-    × ((row : List ℕ) → Starts l.q l.initial.work (cells_of l.q (state_after l.q l.u row 0).polys) → Reached l.q l.u row l.t l.initial.out l.at l.work l.out l.heights l.next)
+    (length l.out ≡ length l.initial.out) × (length l.work ≡ length l.initial.work) × (l.heights.q ≡ l.q)
+    × ((row : List ℕ) → Starts l.q l.initial.work (cells_of l.q (state_after l.q l.u row 0).polys) → Reached l.q l.u row l.t l.initial.out l.at l.work l.out l.heights.each l.next)

@@ -20,7 +20,7 @@ returns-in_default c =
 pub replace_z-requires-clause-y_lt_q : goal.replace_z-requires-clause-y_lt_q
 replace_z-requires-clause-y_lt_q c =
     let it = found _ _ _ (sym c.monomial_of.ensures ∙ c.in-Some.is) in
-    let b = powers-small c.args.q c.args.s (omega (arith, c.requires.area.some)) in
+    let b = powers-small c.args.products.now.q c.args.s (omega (arith, c.requires.area.some)) in
     rw (it.power-x, it.power-y) (b.0, omega (arith, b.1))
 
 pub returns : goal.returns
@@ -28,5 +28,5 @@ returns c =
     λ S ω ev below.
     let known = c.requires.area.known in
     let it = found _ _ _ (sym c.monomial_of.ensures ∙ c.in-Some.is) in
-    becomes _ _ (rw (it.power-x, it.power-y) at (c.replace_z.ensures ω (rw (c.products_in-products.ensures, ev) (multiplies-symbol _ known ω))))
+    becomes _ _ (rw (it.power-x, it.power-y) at (c.replace_z.ensures ω (rw (c.row.ensures, ev) (multiplies-symbol _ known ω))))
     (substituted-cells _ known S _ below _ ω (λ z. c.if-vote-eq0.false (ev ∙ z)))

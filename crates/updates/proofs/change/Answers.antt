@@ -10,7 +10,6 @@ use Rattle.pair.proofs.Signed.{back, positive-yes, positive-no}
 use Rattle.workarea.proofs.Multipliers.{multiplies-symbol}
 use Rattle.workarea.proofs.Becoming.{becomes-same}
 use Rattle.updates.proofs.ChangeLaws.{unchanged, changed-raised, changed-reduced}
-use Rattle.workarea.proofs.HeightLaws.{heights-added, heights-exchanged}
 use Rattle.updates.proofs.BelowUpdates.{becomes-reduced, becomes-exchanged}
 use Rattle.updates.proofs.change.Goals as goal
 
@@ -19,11 +18,6 @@ returns-then-pair-vote-clause-becomes_below c = λ S ω P ev n below.
     let same = unchanged _ c.requires.area.known S ω c.args.i P (sym n.w ∙ c.if-pair-vote.true ∙ ev) in
     record { becomes = becomes-same _ S _ same; below = rw same below }
 
-pub returns-then-pair-gt0-clause-heights_left : goal.returns-then-pair-gt0-clause-heights_left
-returns-then-pair-gt0-clause-heights_left c = let held = c.requires.i_lt_q.1 in
-    let hi = c.requires.i_lt_q.0 in
-    rw c.exchange_heights.ensures (heights-exchanged _ _ _ _ _ c.requires.heights (omega (arith, hi)) (omega (arith, held.partner)))
-
 pub returns-then-pair-gt0-clause-becomes_below : goal.returns-then-pair-gt0-clause-becomes_below
 returns-then-pair-gt0-clause-becomes_below c = let known = c.requires.area.known in
     let held = c.requires.i_lt_q.1 in
@@ -31,17 +25,13 @@ returns-then-pair-gt0-clause-becomes_below c = let known = c.requires.area.known
     let z = c.args.pair.c in
     let up = positive-yes z (rw (back z held.c) at c.if-pair-gt0.true) in
     λ S ω P ev n below.
-    let found = c.ratio_of-ratio.ensures ω P ev n.w n.μ n.ν in
+    let found = c.ratio_of.ensures ω P ev n.w n.μ n.ν in
     let shift = c.unsigned_abs-shift.ensures.value ∙ ap nat_abs (back z held.c) ∙ up.0 ∙ ap positive_part n.c in
     let few = rw n.partner at held.partner in
-    becomes-exchanged _ known _ _ c.requires.heights S _ below _ _ _ _ (omega (arith, hi)) (omega (arith, few)) (λ d. omega (arith, few))
-    (rw (n.partner, shift) at (c.exchange_polynomials.ensures (ratio (symbols c.args.q) c.args.q ω P) (rw (c.products_in-products.ensures, found) (multiplies-symbol _ known (ratio (symbols c.args.q) c.args.q ω P)))))
-    (rw (n.partner, shift) at c.exchange_heights.ensures)
+    becomes-exchanged _ known _ _ (rw c.requires.same_q at c.args.heights.now.low) S _ below _ _ _ _ (omega (arith, hi)) (omega (arith, few)) (λ d. omega (arith, few))
+    (rw (n.partner, shift) at (c.exchange_polynomials.ensures (ratio (symbols c.args.products.now.q) c.args.products.now.q ω P) (rw (c.row-row.ensures, found) (multiplies-symbol _ known (ratio (symbols c.args.products.now.q) c.args.products.now.q ω P)))))
+    (rw (c.requires.same_q, n.partner, shift) at c.exchange.ensures.exchanged)
     (changed-raised _ known S ω _ P (λ d. c.if-pair-vote.false (n.w ∙ d ∙ sym ev)) (rw n.c at up.1) few)
-
-pub returns-else-pair-gt0-clause-heights_left : goal.returns-else-pair-gt0-clause-heights_left
-returns-else-pair-gt0-clause-heights_left c = let hi = c.requires.i_lt_q.0 in
-    rw c.add_heights.ensures (heights-added _ _ _ _ _ c.requires.heights (omega (arith, hi)))
 
 pub returns-else-pair-gt0-clause-becomes_below : goal.returns-else-pair-gt0-clause-becomes_below
 returns-else-pair-gt0-clause-becomes_below c = let known = c.requires.area.known in
@@ -50,11 +40,12 @@ returns-else-pair-gt0-clause-becomes_below c = let known = c.requires.area.known
     let z = c.args.pair.c in
     let down = positive-no z (rw (back z held.c) at c.if-pair-gt0.false) in
     λ S ω P ev n below.
-    let found = c.ratio_of-ratio.ensures ω P ev n.w n.μ n.ν in
+    let found = c.ratio_of.ensures ω P ev n.w n.μ n.ν in
     let shift = c.unsigned_abs-shift.ensures.value ∙ ap nat_abs (back z held.c) ∙ down.0 ∙ ap negative_part n.c in
     let few = rw n.partner at held.partner in
-    becomes-reduced _ known _ _ c.requires.heights S _ below _ _ _ _ (omega (arith, hi)) (omega (arith, few)) _
-    (rw (n.partner, shift) at (c.reduce_polynomial.ensures (ratio (symbols c.args.q) c.args.q ω P) (rw (c.products_in-products.ensures, found) (multiplies-symbol _ known (ratio (symbols c.args.q) c.args.q ω P)))))
-    (rw (n.partner, shift) at c.add_heights.ensures)
-    (changed-reduced _ known S ω _ P _ (λ r m hr hm past. below.above _ r m (omega (arith, few)) hr hm past)
+    let height = rw n.partner at c.of.ensures.value in
+    becomes-reduced _ known _ _ (rw c.requires.same_q at c.args.heights.now.low) S _ below _ _ _ _ (omega (arith, hi)) (omega (arith, few)) _
+    (rw (n.partner, shift) at (c.reduce_polynomial.ensures (ratio (symbols c.args.products.now.q) c.args.products.now.q ω P) (rw (c.row-row.ensures, found) (multiplies-symbol _ known (ratio (symbols c.args.products.now.q) c.args.products.now.q ω P)))))
+    (rw (c.requires.same_q, n.partner, shift) at c.add.ensures.added)
+    (changed-reduced _ known S ω _ P _ (λ r m hr hm past. below.above _ r m (omega (arith, few)) hr hm (rw height at past))
     (λ d. c.if-pair-vote.false (n.w ∙ d ∙ sym ev)) (ap positive_part (sym n.c) ∙ down.1))

@@ -21,12 +21,12 @@ pub returns-then-k-ge0 : goal.returns-then-k-ge0
 returns-then-k-ge0 c =
     λ S μ narrow z is.
     let e = k-is (goal.at.returns-then-k-ge0 c).Start in
-    let known = c.requires.area.0.known in
+    let known = c.requires.area.known in
     voted-whole _ known _ _ _ μ (whole-yes _ (rw e at c.if-k-ge0.true))
-    (quotient_is _ known _ _ _ _ _ μ (rw e at (c.negative_at-negative.ensures S narrow z)) is c.inverse.ensures c.product_in.ensures)
+    (quotient_is _ known _ _ _ _ _ μ (rw e at (c.negative_at-negative.ensures S narrow z)) is c.inverse.ensures c.product.ensures)
     is
 
 pub returns : goal.returns
 returns c =
     λ S μ narrow z is.
-    voted-negative _ c.requires.area.0.known _ _ _ μ (whole-no _ (rw (k-is (goal.at.returns c).Start) at c.if-k-ge0.false)) refl refl
+    voted-negative _ c.requires.area.known _ _ _ μ (whole-no _ (rw (k-is (goal.at.returns c).Start) at c.if-k-ge0.false)) refl refl

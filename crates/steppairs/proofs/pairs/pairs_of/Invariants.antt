@@ -14,6 +14,7 @@ use Rattle.steppairs.proofs.pairs.pairs_of.Given as goal
 
 abbrev pub invariant-loop-i : goal.invariant-loop-i
 invariant-loop-i l =
-    (length l.pairs ≡ most_q) × ((j : ℕ) → j < l.i → Held l.q (pair_at l.pairs j))
-    × ((S : Polynomials (symbols l.q) l.q) (u : ℕ) → Narrow l.q (cells_of l.q S) → WithinHeights l.q l.heights (cells_of l.q S) → Starts l.q l.work (cells_of l.q S) → is_voted l.q u l.s ≡ l.voted
-    → (j : ℕ) → j < l.i → NumbersOf l.q (pair_at l.pairs j) (pairing (symbols l.q) l.q u l.s S j))
+    let q = l.products.q in
+    (length l.pairs ≡ most_q) × ((j : ℕ) → j < l.i → Held q (pair_at l.pairs j))
+    × ((S : Polynomials (symbols q) q) (u : ℕ) → Narrow q (cells_of q S) → WithinHeights q l.heights.each (cells_of q S) → Starts q l.work (cells_of q S) → is_voted q u l.s ≡ l.voted
+    → (j : ℕ) → j < l.i → NumbersOf q (pair_at l.pairs j) (pairing (symbols q) q u l.s S j))

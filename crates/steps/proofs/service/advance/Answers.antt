@@ -16,5 +16,5 @@ returns c = let q = c.args.code.q in
     let work = drop (area_size q) c.args.work.now in
     let votes = drop (dimension q u) c.args.votes.now in
     let all = c.take_steps.ensures row work votes
-    (c.begin.ensures ∙ ap (λ (l : List ℕ). l ++ work) (sym (picture-first q u row)))
+    (rw c.of-products.ensures at c.begin.ensures ∙ ap (λ (l : List ℕ). l ++ work) (sym (picture-first q u row)))
     (rw c.requires.valid.0.k-is at c.clear.ensures ∙ ap (λ (l : List ℕ). l ++ votes) (sym (votes-first q u row c.requires.valid.0.known))) in record { work_left = all.0; votes_left = all.1 }

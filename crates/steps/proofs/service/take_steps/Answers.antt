@@ -7,7 +7,6 @@ use borrow.Author.Rules.{rules}
 use Rattle.curve.proofs.CodeLaws.{code_below}
 use Rattle.published.specs.Start.{step_count}
 use Rattle.steps.specs.Votes.{votes_below, noted}
-use Rattle.workarea.proofs.HeightLaws.{start-many}
 use Rattle.steps.proofs.StartHeights.{below-start}
 use Rattle.steps.proofs.VotePlaces.{below_all, below-le, code-stepped, noted-next}
 use Rattle.steps.proofs.service.take_steps.Goals as goal
@@ -18,10 +17,15 @@ loop-done-init c =
       refl,
       refl,
       c.requires.valid.0.k-is ∙ sym (below_all _ _ _ (code-stepped _ _ known (code_below _ _ c.requires.valid.0.accepted))) ∙ ap (votes_below c.args.code.q c.args.code.u) (sym (sub-zero _)),
-      start-many _ _ known c.start_heights-heights.ensures,
-      c.start_heights-heights.ensures.long,
-      λ row rest rest' e e'. (e, e', below-start _ known _ c.start_heights-heights.ensures _ row),
+      c.at_start-heights.ensures.0,
+      λ row rest rest' e e'. (e, e', below-start _ known _ c.at_start-heights.ensures.1 _ row),
     )
+
+pub take_step-vote-requires : goal.take_step-vote-requires
+take_step-vote-requires c = record {
+  room = rw c.requires.same_q (omega (arith, c.loop-done.invariant.0, c.requires.q_in_bounds.0), omega (arith, c.requires.valid.1, c.loop-done-test.true));
+  same_q = c.loop-done.invariant.3 ∙ sym c.requires.same_q;
+}
 
 pub note_vote-left-requires : goal.note_vote-left-requires
 note_vote-left-requires c =
@@ -35,21 +39,19 @@ note_vote-left-requires c =
 pub loop-done-preserved : goal.loop-done-preserved
 loop-done-preserved c =
     let turn = c.loop-done in
-    let stepping = c.take_step-vote.ensures in
     let noting = c.note_vote-left.ensures in
     let few : turn.done < step_count c.args.code.q = omega (arith, c.requires.valid.1, c.loop-done-test.true) in (
       search rules,
       search rules,
       noting.value,
-      stepping.heights_left,
-      search rules,
+      c.take_step-vote.ensures.q_stays ∙ turn.invariant.3,
       λ row rest rest' e e'.
-          let now-then = turn.invariant.5 row rest rest' e e' in
-          let stepped = stepping.stepped row rest now-then.0 now-then.2 in
+          let now-then = turn.invariant.4 row rest rest' e e' in
+          let stepped = (rw c.requires.same_q at c.take_step-vote.ensures.stepped) row rest now-then.0 now-then.2 in
           (stepped.0.picture, noting.votes_left ∙ ap (noted _ _ _ _) now-then.1 ∙ noted-next _ _ row _ _ rest' few stepped.0.vote-is, stepped.1),
     )
 
 pub returns : goal.returns
 returns c =
     let e : c.loop-done.done ≡ c.args.steps = omega (arith, c.loop-done-test.false, c.loop-done.auto) in
-    λ row rest rest' w v. let all = (rw e at c.loop-done.invariant.5) row rest rest' w v in (all.0, all.1)
+    λ row rest rest' w v. let all = (rw e at c.loop-done.invariant.4) row rest rest' w v in (all.0, all.1)
