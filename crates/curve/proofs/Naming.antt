@@ -11,8 +11,7 @@ use Rattle.refusals.specs.declared.Refusal.{Refusal}
 use Rattle.refusals.proofs.Checks.{Refuses, Passes, clear, refused, passed, decide_checks}
 use Rattle.symbols.specs.Rule.{is_known}
 use Rattle.symbols.proofs.Bytes.{test_known}
-use Rattle.curve.specs.declared.Code.{Code}
-use Rattle.curve.specs.Codes.{is_code}
+use Rattle.curve.specs.Codes.{Code, is_code}
 use Rattle.curve.specs.Answers.{code_of, code_checks, named}
 use Rattle.curve.specs.Given.{Valid}
 

@@ -52,3 +52,13 @@ returns c =
     (passed Err _
     (clear (rw c.is_known.ensures at (ap not c.if-not-is_known.false))
     (clear (rw c.is_code.ensures at (ap not c.if-not-is_code.false)) done))))
+
+pub invariant_of-result : goal.invariant_of-result
+invariant_of-result c =
+    record {
+      known = test_known _ (known (goal.at.invariant_of-result c).Else-not-is_known);
+      accepted = code (goal.at.invariant_of-result c).Else-not-is_code;
+      n-is = c.point_count.ensures;
+      k-is = c.dimension.ensures;
+      reach-is = c.reach.ensures;
+    }
