@@ -1,42 +1,26 @@
--- Each answer in numbers: a refusal is its number, and what is no refusal has its values.
+-- Each answer in numbers: a refusal is its number, and what is no refusal has its values. The type `()` is `Unit {0}` here, and its
+-- value is `tt`.
 -- Assumes nothing.
-use Rattle.std.proofs.Common.{inr}
-use Rattle.std.specs.Prelude.{[], ◌∷◌}
-use Rattle.refusals.specs.Numbers.{Told, refused_by}
-use Rattle.answers.specs.declared.Encoded.{Encoded}
-use Rattle.answers.specs.declared.Encoded.TheVariants.{Done, Refused}
-use Rattle.answers.specs.declared.Stopped.{Stopped}
-use Rattle.answers.specs.declared.Stopped.TheVariants.{Done as Stood, Refused as Unstopped}
-use Rattle.answers.specs.declared.Decoded.{Decoded}
-use Rattle.answers.specs.declared.Decoded.TheVariants.{Accepted, Refused as Undecoded}
-use Rattle.answers.specs.declared.Verified.{Verified}
-use Rattle.answers.specs.declared.Verified.TheVariants.{Copied, Differs, Unreadable, Refused as Unverified}
-use Rattle.answers.specs.declared.Written.{Written}
-use Rattle.answers.specs.declared.Written.TheVariants.{Length, Refused as Unwritten}
+use Rattle.std.specs.Prelude.{List, [], ◌∷◌, ℕ, Result}
+use Rattle.refusals.specs.declared.Refusal.{Refusal}
+use Rattle.refusals.specs.Numbers.{Told, told_as}
+use Rattle.answers.specs.declared.Verdict.{Verdict}
+use Rattle.answers.specs.declared.Verdict.TheVariants.{Copied, Differs, Unreadable}
 
--- encoding: done has no value
-abbrev pub encoded_as : Encoded → Told
-encoded_as Done = inr []
-encoded_as (Refused why) = refused_by why
+-- encoding and stopping: done has no value
+abbrev pub done_as : Result (Unit {0}) Refusal → Told
+done_as = told_as (λ _. [])
 
--- stopping: done has no value
-abbrev pub stopped_as : Stopped → Told
-stopped_as Stood = inr []
-stopped_as (Unstopped why) = refused_by why
+-- decoding and writing: an acceptance has the count, and a block that was written its length
+abbrev pub count_as : Result ℕ Refusal → Told
+count_as = told_as (λ count. count ∷ [])
 
--- decoding: an acceptance has the count
-abbrev pub decoded_as : Decoded → Told
-decoded_as (Accepted count) = inr (count ∷ [])
-decoded_as (Undecoded why) = refused_by why
+-- the state for which a verdict is named, then the sum of the counts or the row
+abbrev pub verdict_values : Verdict → List ℕ
+verdict_values (Copied total) = 0 ∷ total ∷ []
+verdict_values (Differs row) = 1 ∷ row ∷ []
+verdict_values (Unreadable row) = 2 ∷ row ∷ []
 
--- verifying: the state for which it is named, then the sum of the counts or the row
-abbrev pub verified_as : Verified → Told
-verified_as (Copied total) = inr (0 ∷ total ∷ [])
-verified_as (Differs row) = inr (1 ∷ row ∷ [])
-verified_as (Unreadable row) = inr (2 ∷ row ∷ [])
-verified_as (Unverified why) = refused_by why
-
--- writing: the length of the block
-abbrev pub written_as : Written → Told
-written_as (Length bytes) = inr (bytes ∷ [])
-written_as (Unwritten why) = refused_by why
+-- verifying: the values of the verdict
+abbrev pub verified_as : Result Verdict Refusal → Told
+verified_as = told_as verdict_values

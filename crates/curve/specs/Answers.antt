@@ -1,11 +1,10 @@
 -- What a weight belongs to, and what q and u name, as answers. Document 01, "Fields and curve" and "Refusal numbers".
 -- Assumes nothing.
-use Rattle.std.proofs.Common.{inr}
 use Rattle.std.specs.Prelude.{true, false, not, List, [], ◌∷◌, ℕ, Option, None, Some, Result, Ok, Err, eqb, length}
 use Rattle.algebra.specs.Weights.{gap, x_power, y_power}
 use Rattle.refusals.specs.declared.Refusal.{Refusal}
 use Rattle.refusals.specs.declared.Refusal.TheVariants.{UnknownQ, NoCode, WrongLength, NoSymbol}
-use Rattle.refusals.specs.Numbers.{Told, refused_by, Check, ◌if◌, first_of}
+use Rattle.refusals.specs.Numbers.{Told, told_as, Check, ◌if◌, first_of}
 use Rattle.symbols.specs.Rule.{is_known, any_beyond}
 use Rattle.curve.specs.declared.Powers.{Powers}
 use Rattle.curve.specs.Codes.{Code, point_count, is_code, dimension, reach}
@@ -32,5 +31,4 @@ named q u = first_of (code_checks q u) Err (Ok (code_of q u))
 
 -- the answer in numbers: a code has q, u, n, k and its reach
 abbrev pub named_as : Result Code Refusal → Told
-named_as (Ok code) = inr (code.q ∷ code.u ∷ code.n ∷ code.k ∷ code.reach ∷ [])
-named_as (Err why) = refused_by why
+named_as = told_as (λ code. code.q ∷ code.u ∷ code.n ∷ code.k ∷ code.reach ∷ [])

@@ -46,7 +46,7 @@ pub fn remainder(q: usize, n: usize) -> usize
     if q == 4 { n % 4 } else { n % 2 }
 }
 
-// The quotient by q.
+// The quotient by q, taken by divisors that the compiler knows for the same reason.
 fn quotient(q: usize, n: usize) -> usize
     requires { Known q }
     ensures { result ≡ n / q }
@@ -96,15 +96,7 @@ pub fn dimension(q: usize, u: usize) -> usize
     requires { Known q × (u < point_count q) }
     ensures { result ≡ dimension_of q u }
 {
-    let mut count = 0;
-    let mut s = 0;
-    while s <= u {
-        if !is_gap(q, s) {
-            count += 1;
-        }
-        s += 1;
-    }
-    count
+    (0..=u).filter(|s| !is_gap(q, *s)).count()
 }
 
 // The distance of a code: the row of aq decides it where u = aq + b is not far above that.

@@ -5,15 +5,15 @@ use mathlib.Core.Logic.{inr}
 use mathlib.Core.List.{List, []}
 use Prim.Native.Nat.{ℕ}
 use lib.ListN.{length}
+use Rattle.std.specs.Prelude.{Result, Ok, Err}
+use Rattle.refusals.specs.declared.Refusal.{Refusal}
 use Rattle.refusals.specs.Numbers.{refused_by, first_of}
 use Rattle.refusals.proofs.Checks.{made_of}
-use Rattle.answers.specs.declared.Encoded.{Encoded}
-use Rattle.answers.specs.declared.Encoded.TheVariants.{Done, Refused}
 use Rattle.encoder.specs.Encoding.{encode_checks, encode_answer, encode_output}
-use Rattle.answers.specs.InNumbers.{encoded_as}
+use Rattle.answers.specs.InNumbers.{done_as}
 
 -- two results of encoding
-pub encode-settled : (q u : ℕ) (message output : List ℕ) {answer answer' : Encoded} {output₁ output₂ : List ℕ}
+pub encode-settled : (q u : ℕ) (message output : List ℕ) {answer answer' : Result (Unit {0}) Refusal} {output₁ output₂ : List ℕ}
     → answer ≡ encode_answer q u message output → output₁ ≡ encode_output q u message output
     → answer' ≡ encode_answer q u message output → output₂ ≡ encode_output q u message output
     → (answer ≡ answer') × (output₁ ≡ output₂)
@@ -26,7 +26,7 @@ unfolding encode_answer encode_checks
 answer-by-length q u message output output' e = rw e
 
 -- the answer in numbers: that of the first check that holds, else no value
-pub encode-told : (q u : ℕ) (message output : List ℕ) {answer : Encoded} → answer ≡ encode_answer q u message output
-    → encoded_as answer ≡ first_of (encode_checks q u message output) refused_by (inr [])
+pub encode-told : (q u : ℕ) (message output : List ℕ) {answer : Result (Unit {0}) Refusal} → answer ≡ encode_answer q u message output
+    → done_as answer ≡ first_of (encode_checks q u message output) refused_by (inr [])
 unfolding encode_answer
-encode-told q u message output e = ap encoded_as e ∙ made_of encoded_as Refused Done (encode_checks q u message output)
+encode-told q u message output e = ap done_as e ∙ made_of done_as Err (Ok tt) (encode_checks q u message output)

@@ -7,8 +7,7 @@ ghost use Rattle.curve.specs.Codes.{point_count};
 ghost use Rattle.curve.specs.Given.{Valid, Message};
 ghost use Rattle.encoder.specs.Encoding.{row_numbers, encode_answer, encode_output};
 
-pub use answers::Encoded;
-use curve::{Code, Named};
+use curve::Code;
 use evaluation::{column, fill_fibre, spread};
 use refusals::Refusal;
 
@@ -23,41 +22,37 @@ pub fn encode_row(code: Code, message: &[u8], row: &mut [u8])
     let places = spread(q, u, message);
     let width = u / q + 1;
     let table = products::table_of(q);
-    let mut x = 0;
-    while x < q * q {
+    for x in 0..q * q {
         let values = column(&table, q, x as u8, &places, width);
         fill_fibre(&table, q, x, &values, row);
-        x += 1;
     }
 }
 
 // Encoding under a code: refused with 4, 5 or 7, or done.
-fn encode_under(code: Code, message: &[u8], output: &mut [u8]) -> Encoded
+fn encode_under(code: Code, message: &[u8], output: &mut [u8]) -> Result<(), Refusal>
     requires { Valid code }
     ensures value { result ≡ encode_answer code.q code.u message.now output.old }
     ensures output_left { output.new ≡ encode_output code.q code.u message.now output.old }
 {
     if message.len() != code.k {
-        return Encoded::Refused(Refusal::WrongLength);
+        return Err(Refusal::WrongLength);
     }
     if !symbols::all_symbols(code.q, message) {
-        return Encoded::Refused(Refusal::NoSymbol);
+        return Err(Refusal::NoSymbol);
     }
     if output.len() < code.n {
-        return Encoded::Refused(Refusal::ShortOutput);
+        return Err(Refusal::ShortOutput);
     }
     encode_row(code, message, output);
-    Encoded::Done
+    Ok(())
 }
 
 // Encoding, for all inputs: refused with 1, 2, 4, 5 or 7, or done with the row in the first n places. The promise is two
 // equations, so any two answers and any two outputs that it allows are equal.
-pub fn encode(q: usize, u: usize, message: &[u8], output: &mut [u8]) -> Encoded
+pub fn encode(q: usize, u: usize, message: &[u8], output: &mut [u8]) -> Result<(), Refusal>
     ensures value { result ≡ encode_answer q u message.now output.old }
     ensures output_left { output.new ≡ encode_output q u message.now output.old }
 {
-    match curve::code_of(q, u) {
-        Named::Code(code) => encode_under(code, message, output),
-        Named::Refused(why) => Encoded::Refused(why),
-    }
+    let code = curve::code_of(q, u)?;
+    encode_under(code, message, output)
 }

@@ -1,7 +1,7 @@
 -- The refusal numbers, and which refusal a call gives. Document 01, "Refusal numbers".
 -- Assumes nothing.
-use Rattle.std.specs.Prelude.{Bool, true, false, ◌⊎◌, List, [], ◌∷◌, ℕ}
-use Rattle.std.proofs.Common.{inl}
+use Rattle.std.specs.Prelude.{Bool, true, false, ◌⊎◌, List, [], ◌∷◌, ℕ, Result, Ok, Err}
+use Rattle.std.proofs.Common.{inl, inr}
 use Rattle.refusals.specs.declared.Refusal.{Refusal}
 use Rattle.refusals.specs.declared.Refusal.TheVariants.{UnknownQ, NoCode, TooManySteps, WrongLength, NoSymbol, ShortWork, ShortOutput, BeyondReach, BadBlock, WrongPayload, FewRecords}
 
@@ -19,14 +19,18 @@ refusal_number BadBlock = 9
 refusal_number WrongPayload = 10
 refusal_number FewRecords = 11
 
--- an answer in numbers: the number of a refusal, or the values that any other answer has; beside each enum that a call answers
--- with stands a function that says this of its cases
+-- an answer in numbers: the number of a refusal, or the values that any other answer has
 abbrev pub Told : Type 0
 Told = ℕ ⊎ List ℕ
 
 -- "A refusal returns its number only."
 abbrev pub refused_by : Refusal → Told
 refused_by why = inl (refusal_number why)
+
+-- a call's answer in numbers, where `values` says which numbers it has when it is no refusal
+abbrev pub told_as : {A : Type 0} → (A → List ℕ) → Result A Refusal → Told
+told_as values (Ok x) = inr (values x)
+told_as values (Err why) = refused_by why
 
 -- a refusal, and whether what it is given for holds
 pub record Check : Type 0 where

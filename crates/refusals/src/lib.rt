@@ -1,10 +1,12 @@
 // Why a call refuses: one case for each number of document 01's table of refusals.
 #![tactic(auto)]
 
-ghost use Rattle.std.specs.Prelude.{◌≡◌};
+ghost use Rattle.std.specs.Prelude.{◌≡◌, Some, decimal};
 ghost use Rattle.refusals.specs.Numbers.{refusal_number};
 
-#[derive(Clone, Copy)]
+use std::fmt;
+
+#[derive(Clone, Copy, Debug, PartialEq, Eq)]
 pub enum Refusal {
     // 1: q is not 2 or 4
     UnknownQ,
@@ -31,20 +33,31 @@ pub enum Refusal {
 }
 
 // The number itself, for callers that are told no more.
-pub fn number_of(why: Refusal) -> u8
-    ensures { result ≡ refusal_number why }
-{
-    match why {
-        Refusal::UnknownQ => 1,
-        Refusal::NoCode => 2,
-        Refusal::TooManySteps => 3,
-        Refusal::WrongLength => 4,
-        Refusal::NoSymbol => 5,
-        Refusal::ShortWork => 6,
-        Refusal::ShortOutput => 7,
-        Refusal::BeyondReach => 8,
-        Refusal::BadBlock => 9,
-        Refusal::WrongPayload => 10,
-        Refusal::FewRecords => 11,
+impl From<Refusal> for u8 {
+    ghost from_gives = { λ why number. number ≡ refusal_number why };
+
+    fn from(why: Refusal) -> u8 {
+        match why {
+            Refusal::UnknownQ => 1,
+            Refusal::NoCode => 2,
+            Refusal::TooManySteps => 3,
+            Refusal::WrongLength => 4,
+            Refusal::NoSymbol => 5,
+            Refusal::ShortWork => 6,
+            Refusal::ShortOutput => 7,
+            Refusal::BeyondReach => 8,
+            Refusal::BadBlock => 9,
+            Refusal::WrongPayload => 10,
+            Refusal::FewRecords => 11,
+        }
+    }
+}
+
+// A refusal is printed as its number, in decimal.
+impl fmt::Display for Refusal {
+    ghost output = { λ why. Some (decimal (refusal_number why)) };
+
+    fn fmt<W: fmt::Write>(&self, f: &mut fmt::Formatter<W>) -> fmt::Result {
+        fmt::Display::fmt(&u8::from(*self), f)
     }
 }

@@ -2,18 +2,18 @@
 use mathlib.Core.Path.{◌≡◌, refl}
 use mathlib.Core.Bool.{true, false}
 use Prim.Native.Nat.{ℕ, zero-le}
+use Rattle.std.specs.Prelude.{Ok, Err}
 use borrow.Author.Tests.{le-leb}
 use Rattle.refusals.specs.declared.Refusal.{Refusal}
 use Rattle.refusals.specs.declared.Refusal.TheVariants.{UnknownQ, NoCode, TooManySteps, WrongLength, NoSymbol, ShortWork, ShortOutput, BeyondReach, BadBlock, WrongPayload, FewRecords}
-use Rattle.answers.specs.declared.Decoded.TheVariants.{Accepted, Refused}
-use Rattle.results.specs.Results.{decode_result, was_accepted}
+use Rattle.results.specs.Results.{count_result, was_accepted}
 
 -- every count tells an acceptance
-pub count-accepted : (count : ℕ) → was_accepted (decode_result (Accepted count)) ≡ true
+pub count-accepted : (count : ℕ) → was_accepted (count_result (Ok count)) ≡ true
 count-accepted count = le-leb 0 count zero-le
 
 -- and no refusal does, since no number is 0
-pub refusal-not-accepted : (why : Refusal) → was_accepted (decode_result (Refused why)) ≡ false
+pub refusal-not-accepted : (why : Refusal) → was_accepted (count_result (Err why)) ≡ false
 refusal-not-accepted UnknownQ = refl
 refusal-not-accepted NoCode = refl
 refusal-not-accepted TooManySteps = refl

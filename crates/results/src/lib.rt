@@ -1,98 +1,70 @@
 // Each answer as one integer, since an enum does not cross to C: 0 or the count when done, minus the refusal's number when
-// refused.
+// refused. The numbers are the C interface: include/orbitspinet.h says them in words.
 #![tactic(auto)]
 
 ghost use Rattle.std.specs.Prelude.{◌≡◌};
 ghost use Rattle.results.specs.Results.{
   refusal_result,
-  encode_result,
-  stop_result,
-  decode_result,
+  done_result,
+  count_result,
   verify_result,
   verify_at,
-  write_result,
   was_accepted,
-  row_passed,
   CountFits,
-  LengthFits,
 };
 
-use answers::{Decoded, Encoded, Stopped, Verified, Written};
-use refusals::{Refusal, number_of};
+use answers::Verdict;
+use refusals::Refusal;
 
 // Negative, so that no refusal can be taken for a count or a verdict.
 fn of_refusal(why: Refusal) -> i64
     ensures { result ≡ refusal_result why }
 {
-    let number = number_of(why);
-    -(number as i64)
+    -i64::from(u8::from(why))
 }
 
-pub fn of_encoding(answer: Encoded) -> i64
-    ensures { result ≡ encode_result answer }
+// What encoding and the stop service answer.
+pub fn of_done(answer: Result<(), Refusal>) -> i64
+    ensures { result ≡ done_result answer }
 {
     match answer {
-        Encoded::Done => 0,
-        Encoded::Refused(why) => of_refusal(why),
+        Ok(()) => 0,
+        Err(why) => of_refusal(why),
     }
 }
 
-pub fn of_stopping(answer: Stopped) -> i64
-    ensures { result ≡ stop_result answer }
-{
-    match answer {
-        Stopped::Done => 0,
-        Stopped::Refused(why) => of_refusal(why),
-    }
-}
-
-pub fn of_decoding(answer: Decoded) -> i64
+// What decoding and writing answer.
+pub fn of_count(answer: Result<usize, Refusal>) -> i64
     requires { CountFits answer }
-    ensures { result ≡ decode_result answer }
+    ensures { result ≡ count_result answer }
 {
     match answer {
-        Decoded::Accepted(count) => count as i64,
-        Decoded::Refused(why) => of_refusal(why),
+        Ok(count) => count as i64,
+        Err(why) => of_refusal(why),
     }
 }
 
-pub fn of_verifying(answer: Verified) -> i64
+pub fn of_verifying(answer: Result<Verdict, Refusal>) -> i64
     ensures { result ≡ verify_result answer }
 {
     match answer {
-        Verified::Copied(_) => 0,
-        Verified::Differs(_) => 1,
-        Verified::Unreadable(_) => 2,
-        Verified::Refused(why) => of_refusal(why),
+        Ok(Verdict::Copied(_)) => 0,
+        Ok(Verdict::Differs(_)) => 1,
+        Ok(Verdict::Unreadable(_)) => 2,
+        Err(why) => of_refusal(why),
     }
 }
 
 // Puts the total or the row into a place. After a refusal nothing is stored there, not even what it held: another thread may
 // have written to it meanwhile.
-pub fn put_place(answer: Verified, at: &mut u64)
+pub fn put_place(answer: Result<Verdict, Refusal>, at: &mut u64)
     ensures { at.new ≡ verify_at answer at.old }
 {
-    match answer {
-        Verified::Copied(total) => {
-            *at = total as u64;
-        }
-        Verified::Differs(row) => {
-            *at = row as u64;
-        }
-        Verified::Unreadable(row) => {
-            *at = row as u64;
-        }
-        Verified::Refused(_) => {}
-    }
-}
-
-pub fn of_writing(answer: Written) -> i64
-    requires { LengthFits answer }
-    ensures { result ≡ write_result answer }
-{
-    match answer {
-        Written::Length(bytes) => bytes as i64,
-        Written::Refused(why) => of_refusal(why),
+    if let Ok(
+        Verdict::Copied(place) | Verdict::Differs(place) | Verdict::Unreadable(place),
+    ) = answer
+    {
+        *at = place as u64;
     }
 }
 
@@ -101,11 +73,4 @@ pub fn was_accepted(decoded: i64) -> bool
     ensures { result ≡ was_accepted decoded }
 {
     decoded >= 0
-}
-
-// Which row is passed on, as a number.
-pub fn row_passed(accepted: bool) -> u64
-    ensures { result ≡ row_passed accepted }
-{
-    if accepted { 1 } else { 0 }
 }

@@ -1,32 +1,33 @@
 -- `encoder::encode` meets its contract: what q and u name decides. Assumes nothing.
 use mathlib.Core.Path.{sym, ap, ◌∙◌}
+use Rattle.std.specs.Prelude.{Err}
+use Rattle.std.proofs.lemmas.Result.{err_from_is_err_and}
 use Rattle.curve.specs.declared.Code.{Code}
 use Rattle.curve.proofs.Naming.{named-refused, named-code, IsNamed, named-valid}
 use Rattle.encoder.specs.Encoding.{encode_answer, encode_output}
 use Rattle.encoder.proofs.EncodeChecks.{refused-by-code}
 use Rattle.encoder.proofs.encode.Goals as goal
-use Rattle.encoder.proofs.encode.Goals.{In-Code}
+use Rattle.encoder.proofs.encode.Goals.{In_ok-code}
 
 -- the code that was named
-found : (c : In-Code) → IsNamed c.args.q c.args.u c.in-Code.code
-found c = named-code _ _ (sym c.code_of.ensures ∙ c.in-Code.is)
+found : (c : In_ok-code) → IsNamed c.args.q c.args.u c.in_ok-code.code
+found c = named-code _ _ (sym c.code_of.ensures ∙ c.in_ok-code.was)
 
 pub encode_under-requires : goal.encode_under-requires
-encode_under-requires c = named-valid _ _ (found (goal.at.encode_under-requires c).In-Code)
+encode_under-requires c = named-valid _ _ (found (goal.at.encode_under-requires c).In_ok-code)
 
-pub returns-in-Code-clause-value : goal.returns-in-Code-clause-value
-returns-in-Code-clause-value c = let message = c.args.message.now in
+pub returns : goal.returns
+returns c =
+    let message = c.args.message.now in
     let output = c.args.output.now in
-    let named = found (goal.at.returns-in-Code-clause-value c).In-Code in
-    let done = c.encode_under.ensures in
-    done.value ∙ ap (λ (code : Code). encode_answer code.q code.u message output) named.is
+    let named = found (goal.at.returns c).In_ok-code in
+    record {
+      value = c.encode_under.ensures.value ∙ ap (λ (code : Code). encode_answer code.q code.u message output) named.is;
+      output_left = c.encode_under.ensures.output_left ∙ ap (λ (code : Code). encode_output code.q code.u message output) named.is;
+    }
 
-pub returns-in-Code-clause-output_left : goal.returns-in-Code-clause-output_left
-returns-in-Code-clause-output_left c = let message = c.args.message.now in
-    let output = c.args.output.now in
-    let named = found (goal.at.returns-in-Code-clause-output_left c).In-Code in
-    let done = c.encode_under.ensures in
-    done.output_left ∙ ap (λ (code : Code). encode_output code.q code.u message output) named.is
-
-pub returns-in-Refused : goal.returns-in-Refused
-returns-in-Refused c = let all = refused-by-code _ _ _ _ (named-refused _ _ (sym c.code_of.ensures ∙ c.in-Refused.is)) in record { value = all.0; output_left = all.1 }
+pub returns-in_err-code : goal.returns-in_err-code
+returns-in_err-code c =
+    let all = refused-by-code _ _ _ _ (named-refused _ _ (sym c.code_of.ensures ∙ c.in_err-code.was)) in
+    let passed = err_from_is_err_and _ c.from_residual.ensures.1 in
+    record { value = passed.1 ∙ ap Err passed.2 ∙ all.0; output_left = all.1 }

@@ -37,10 +37,10 @@ overflow_add-width c =
     )
 
 pub loop-x-init : goal.loop-x-init
-loop-x-init c = (omega arith, refl, rw zero-mul (sym (put-none _ _ _)))
+loop-x-init c = (refl, rw zero-mul (sym (put-none _ _ _)))
 
-pub overflow_mul-q : goal.overflow_mul-q
-overflow_mul-q c = omega (arith, square-small _ c.requires.0.known)
+pub overflow_mul-x-end : goal.overflow_mul-x-end
+overflow_mul-x-end c = omega (arith, square-small _ c.requires.0.known)
 
 pub overflow_cast-x : goal.overflow_cast-x
 overflow_cast-x c = omega (arith, square-small _ c.requires.0.known)
@@ -58,9 +58,6 @@ column-values-requires c = (
   c.table_of-table.ensures,
 )
 
-pub overflow_add-x : goal.overflow_add-x
-overflow_add-x c = omega (arith, square-small _ c.requires.0.known)
-
 pub loop-x-preserved : goal.loop-x-preserved
 loop-x-preserved c =
     let q = c.args.code.q in
@@ -75,10 +72,9 @@ loop-x-preserved c =
     let values = c.column-values in
     let more : c.loop-x.x < q * q = c.loop-x-test.true in
     let held = column-holds q k f (u / q + 1) c.loop-x.x values.result (values.ensures f places) in (
-      omega (arith, more),
-      c.fill_fibre.auto.row ∙ c.loop-x.invariant.1,
+      c.fill_fibre.auto.row ∙ c.loop-x.invariant.0,
       c.fill_fibre.ensures _ held
-          ∙ (rw c.loop-x.invariant.2 (next-column q u message k small c.args.row.now c.loop-x.x more)),
+          ∙ (rw c.loop-x.invariant.1 (next-column q u message k small c.args.row.now c.loop-x.x more)),
     )
 
 pub returns : goal.returns
@@ -86,5 +82,5 @@ returns c =
     let q = c.args.code.q in
     let message = c.args.message.now in
     let end : c.loop-x.x ≡ q * q = omega arith in
-    c.loop-x.invariant.2 ∙ (rw end
+    c.loop-x.invariant.1 ∙ (rw end
     (all-columns q c.args.code.u message c.requires.0.known c.args.row.now c.requires.2))
