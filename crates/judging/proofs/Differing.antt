@@ -1,40 +1,33 @@
--- Counting the places where two rows differ, place after place.
+-- In how many places two rows differ, as the chain over the pairs of their places counts it.
 -- Assumes nothing.
-use mathlib.Core.Path.{◌≡◌, refl}
-use mathlib.Core.Logic.{◌≢◌}
+use mathlib.Core.Path.{◌≡◌, refl, sym, ◌∙◌}
+use mathlib.Core.Bool.{Bool, true, false, not}
 use mathlib.Core.List.{List, [], ◌∷◌}
-use Prim.Native.Nat.{ℕ, suc, ◌+◌, ◌≤◌, ◌<◌}
-use native.Mathlib.Numerals.{add-one}
+use Prim.Native.Nat.{ℕ}
 use native.Mathlib.Omega.{arith}
-use lib.ListN.{length, get_or, drop, drop_of_length-le}
-use lib.Seq.{drop-cons}
-use borrow.Author.Tests.{eq-eqb, ne_eqb}
+use borrow.Author.Tests.{eq-eqb}
+use Rattle.std.specs.Prelude.{count_by, filter, zip, eqb, length}
+use Rattle.std.proofs.lemmas.List.Sums.{length-filter}
 use Rattle.judging.specs.Judging.{differing}
 
--- what is left from place i on
-unfoldable pub differing_from : ℕ → List ℕ → List ℕ → ℕ
-differing_from i a b = differing (drop i a) (drop i b)
+-- the pairs of unlike places
+abbrev unlike : ℕ × ℕ → Bool
+unlike p = not (eqb p.0 p.1)
 
--- from the first place on that is all
-pub from_first : (a b : List ℕ) → differing_from 0 a b ≡ differing a b
-unfolding differing_from
-from_first a b = refl
+-- are as many as the places that differ
+unlike-many : (a b : List ℕ) → length (filter unlike (zip a b)) ≡ differing a b
+unfolding differing
+unlike-many [] b = refl
+unlike-many (x ∷ a) [] = refl
+unlike-many (x ∷ a) (y ∷ b) = go (unlike-many a b) (eqb x y) refl
+  where
+    go : length (filter unlike (zip a b)) ≡ differing a b → (t : Bool) → eqb x y ≡ t
+        → length (filter unlike (zip (x ∷ a) (y ∷ b))) ≡ differing (x ∷ a) (y ∷ b)
+    go rest true e = rw e (omega (arith, rest))
+    go rest false e = rw e (omega (arith, rest))
 
-module _ (i : ℕ) (a b : List ℕ) where
-  -- past the end no place is left
-  pub past_end : length a ≤ i → differing_from i a b ≡ 0
-  unfolding differing_from differing
-  past_end h = rw (drop_of_length-le a h)
-
-  -- a place that differs is one more
-  pub place-differs : i < length a → i < length b → get_or a i 0 ≢ get_or b i 0 → differing_from i a b ≡ suc (differing_from (i + 1) a b)
-  unfolding differing_from differing
-  place-differs ha hb ne = rw (add-one, drop-cons a i 0 ha, drop-cons b i 0 hb, ne_eqb (get_or a i 0) (get_or b i 0) ne) (omega arith)
-
-  -- and one that does not differ is none
-  pub place-agrees : i < length a → i < length b → get_or a i 0 ≡ get_or b i 0 → differing_from i a b ≡ differing_from (i + 1) a b
-  unfolding differing_from differing
-  place-agrees ha hb e = rw (add-one, drop-cons a i 0 ha, drop-cons b i 0 hb, eq-eqb (get_or a i 0) (get_or b i 0) e) (omega arith)
+pub pairs-differ : (a b : List ℕ) → count_by unlike (zip a b) ≡ differing a b
+pairs-differ a b = sym (length-filter unlike (zip a b)) ∙ unlike-many a b
 
 -- a row differs nowhere from itself
 pub differing-self : (a : List ℕ) → differing a a ≡ 0

@@ -1,28 +1,19 @@
 // Judging a message against a row: the message is encoded again, and the places that differ are counted.
 #![tactic(auto)]
 
-ghost use Rattle.std.specs.Prelude.{◌≡◌, ◌++◌, ◌≤◌, length, drop};
+ghost use Rattle.std.specs.Prelude.{◌≡◌, ◌==◌, ◌++◌, ◌≤◌, not, length, drop, count_by, zip};
 ghost use Rattle.curve.specs.Codes.{point_count};
 ghost use Rattle.encoder.specs.Encoding.{row_numbers};
-ghost use Rattle.judging.specs.Judging.{differing, count_of};
+ghost use Rattle.judging.specs.Judging.{count_of};
 ghost use Rattle.curve.specs.Given.{Valid, Message};
 
 use curve::Code;
 
-// How many places of two rows of one length differ.
+// In how many places two rows differ.
 fn count_differing(a: &[u8], b: &[u8]) -> usize
-    requires { length a.now ≡ length b.now }
-    ensures { result ≡ differing a.now b.now }
+    ensures { result ≡ count_by (λ p. not (p.0 == p.1)) (zip a.now b.now) }
 {
-    let mut count = 0;
-    let mut i = 0;
-    while i < a.len() {
-        if a[i] != b[i] {
-            count += 1;
-        }
-        i += 1;
-    }
-    count
+    a.iter().zip(b).filter(|(x, y)| x != y).count()
 }
 
 // Writes the message's row into `sent`, and counts the places where the row differs from it.

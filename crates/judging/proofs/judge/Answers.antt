@@ -2,9 +2,10 @@
 use mathlib.Core.Path.{ap, ◌∙◌}
 use Rattle.judging.specs.Judging.{differing, count_of}
 use Rattle.encoder.proofs.RowSymbols.{row_first}
+use Rattle.judging.proofs.Differing.{pairs-differ}
 use Rattle.judging.proofs.judge.Goals as goal
 
 pub returns-clause-value : goal.returns-clause-value
 unfolding count_of
 returns-clause-value c = let first = row_first c.args.code.q c.requires.valid.0.known c.args.code.u c.args.message.now _ _ _ c.requires.valid.0.n-is c.encode_row.ensures in
-    c.count_differing.ensures ∙ ap (λ l. differing l c.args.row.now) first
+    c.count_differing.ensures ∙ pairs-differ _ _ ∙ ap (λ l. differing l c.args.row.now) first
