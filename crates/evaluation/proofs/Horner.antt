@@ -57,32 +57,34 @@ IsPart q products coefficients i value =
     (a : ℕ) (α : ℕ → Sym q) → Known q → products ≡ product_row q a → Holds q coefficients (length coefficients) α
     → value ≡ number q (part (symbols q) q α (symbol q a) i (length coefficients - i))
 
+-- none
+pub horner-none : (q : ℕ) (products coefficients : List ℕ) → length coefficients ≡ 0 → IsValue q products coefficients 0
+horner-none q products coefficients none a α k e held =
+    rw (none, value_in-zero) (sym (laws-of q k).number-zero)
+
 -- the last coefficient
-pub horner-last : (q : ℕ) (products coefficients : List ℕ) → 0 < length coefficients
-    → IsPart q products coefficients (length coefficients - 1) (get_or coefficients (length coefficients - 1) 0)
-horner-last q products coefficients h a α k e held =
-    let i = length coefficients - 1 in
+pub horner-last : (q : ℕ) (products coefficients : List ℕ) (i : ℕ) → length coefficients ≡ suc i
+    → IsPart q products coefficients i (get_or coefficients i 0)
+horner-last q products coefficients i last a α k e held =
     let one : length coefficients - i ≡ 1 = omega arith in
     rw one (held.at i (omega arith) ∙ ap (number q) (part-last (laws-of q k) α (symbol q a) i))
 
 -- one more
-pub horner-next : (q : ℕ) (products coefficients : List ℕ) (i value : ℕ) → 0 < i → i < length coefficients
-    → IsPart q products coefficients i value
-    → IsPart q products coefficients (i - 1) (sum_of q (get_or products (value % most_symbols) 0) (get_or coefficients (i - 1) 0))
-horner-next q products coefficients i value h l known a α k e held =
-    let tail = part (symbols q) q α (symbol q a) i (length coefficients - i) in
-    let up : suc (i - 1) ≡ i = omega arith in
-    let more : suc (length coefficients - i) ≡ length coefficients - (i - 1) = omega arith in
-    let next = part-next (laws-of q k) α (symbol q a) (i - 1) (length coefficients - i) in
+pub horner-next : (q : ℕ) (products coefficients : List ℕ) (i value : ℕ) → i < length coefficients
+    → IsPart q products coefficients (suc i) value
+    → IsPart q products coefficients i (sum_of q (get_or products (value % most_symbols) 0) (get_or coefficients i 0))
+horner-next q products coefficients i value l known a α k e held =
+    let tail = part (symbols q) q α (symbol q a) (suc i) (length coefficients - suc i) in
+    let more : suc (length coefficients - suc i) ≡ length coefficients - i = omega arith in
+    let next = part-next (laws-of q k) α (symbol q a) i (length coefficients - suc i) in
     rw (
       e,
       known a α k e held,
       table_row-number q k a tail,
-      held.at (i - 1) (omega arith),
-      number-of-sum q k
-          ((symbols q).◌⊗◌ (symbol q a) tail) (α (i - 1)),
+      held.at i (omega arith),
+      number-of-sum q k ((symbols q).◌⊗◌ (symbol q a) tail) (α i),
     )
-    (ap (number q) (rw (up, more) at next))
+    (ap (number q) (rw more at next))
 
 -- all
 pub horner-all : (q : ℕ) (products coefficients : List ℕ) (value : ℕ) → IsPart q products coefficients 0 value

@@ -9,23 +9,19 @@ ghost use Rattle.symbols.specs.Tables.{HasProducts};
 ghost use Rattle.curve.specs.Codes.{point_count, dimension};
 ghost use Rattle.evaluation.specs.Stages.{IsValue, IsSpread, IsColumn, IsFibre};
 
-use curve::Monomial;
+use curve::Powers;
 use symbols::{MOST_POINTS, MOST_Q, MOST_SYMBOLS, SYMBOL_PLACES};
 
 // Horner's rule: the value of the polynomial with these coefficients at the symbol whose products these are.
 fn value_in(q: usize, products: &[u8; MOST_SYMBOLS], coefficients: &[u8]) -> u8
-    requires { 0 < length coefficients.now }
     ensures { IsValue q products.now coefficients.now result }
 {
-    let mut i = coefficients.len() - 1;
-    let mut value = coefficients[i];
-    while 0 < i {
-        i -= 1;
-        value = symbols::sum(
-            q,
-            products[(value % SYMBOL_PLACES) as usize],
-            coefficients[i],
-        );
+    let Some((&last, others)) = coefficients.split_last() else {
+        return 0;
+    };
+    let mut value = last;
+    for &coefficient in others.iter().rev() {
+        value = symbols::sum(q, products[(value % SYMBOL_PLACES) as usize], coefficient);
     }
     value
 }
@@ -37,11 +33,8 @@ pub fn spread(q: usize, u: usize, message: &[u8]) -> [u8; MOST_POINTS]
 {
     let mut places = [0u8; MOST_POINTS];
     let mut taken = 0;
-    let mut s = 0;
-    while s <= u {
-        let monomial = curve::monomial_of(q, s);
-        s += 1;
-        if let Monomial::Powers { x, y } = monomial {
+    for s in 0..=u {
+        if let Some(Powers { x, y }) = curve::monomial_of(q, s) {
             places[y * MOST_SYMBOLS + x] = message[taken];
             taken += 1;
         }
@@ -56,12 +49,10 @@ pub fn column(table: &[u8], q: usize, x: u8, places: &[u8], width: usize) -> [u8
 {
     let products = products::products_in(table, q, x);
     let mut values = [0u8; MOST_Q];
-    let mut j = 0;
-    while j < q {
+    for j in 0..q {
         let start = j * MOST_SYMBOLS;
         let end = start + width;
         values[j] = value_in(q, &products, &places[start..end]);
-        j += 1;
     }
     values
 }
@@ -73,10 +64,8 @@ pub fn fill_fibre(table: &[u8], q: usize, x: usize, values: &[u8], row: &mut [u8
 {
     let ordinates = ordinates::ordinates(q, products::products_in(table, q, x as u8));
     let start = x * q;
-    let mut b = 0;
-    while b < q {
+    for b in 0..q {
         let products = products::products_in(table, q, ordinates[b]);
         row[start + b] = value_in(q, &products, &values[..q]);
-        b += 1;
     }
 }

@@ -12,6 +12,7 @@ use symbols::{MOST_Q, MOST_SYMBOLS, SYMBOL_PLACES};
 // The sets of ordinates: for q = 4 those above x⁵ = 0, 1, 6 and 7, for q = 2 those above x³ = 0 and 1.
 const SETS_4: [[u8; MOST_Q]; 4] = [[0, 1, 6, 7], [2, 3, 4, 5], [10, 11, 12, 13], [8, 9, 14, 15]];
 
+// A table of its own, as another q has other sets: no constant or type turns one into the other.
 const SETS_2: [[u8; MOST_Q]; 2] = [[0, 1, 0, 0], [2, 3, 0, 0]];
 
 // x^(q+1), by the products of x: it chooses the set of ordinates.
@@ -20,15 +21,14 @@ fn norm(q: usize, products: [u8; MOST_SYMBOLS]) -> u8
     ensures { (x : ℕ) → products ≡ product_row q x → result ≡ number q (power (symbols q) (symbol q x) (q + 1)) }
 {
     let mut value = 1u8;
-    let mut i = 0;
-    while i < q + 1 {
+    for _ in 0..q + 1 {
         value = products[(value % SYMBOL_PLACES) as usize];
-        i += 1;
     }
     value
 }
 
 // The place of the set that belongs to x⁵.
+#[tactic(auto, unfolding(crate::specs::Ordinates::set_place))]
 fn set_place(norm: u8) -> usize
     ensures { result ≡ set_place norm }
 {

@@ -11,12 +11,9 @@ pub fn unpack(bytes: &[u8], symbols: &mut [u8])
     ensures { (symbols.new ≡ unpacked bytes.now (length symbols.old))
         × (any_beyond packed_q symbols.new ≡ false) }
 {
-    let mut i = 0;
-    while i < bytes.len() {
-        let byte = bytes[i];
+    for (i, &byte) in bytes.iter().enumerate() {
         symbols[2 * i] = byte / 16;
         symbols[2 * i + 1] = byte % 16;
-        i += 1;
     }
 }
 
@@ -25,11 +22,9 @@ pub fn pack(symbols: &[u8], bytes: &mut [u8])
     requires { (length symbols.now ≡ 2 * length bytes.old) × (any_beyond packed_q symbols.now ≡ false) }
     ensures { bytes.new ≡ packed symbols.now (length bytes.old) }
 {
-    let mut i = 0;
-    while i < bytes.len() {
+    for (i, byte) in bytes.iter_mut().enumerate() {
         let high = symbols[2 * i];
         let low = symbols[2 * i + 1];
-        bytes[i] = high * 16 + low;
-        i += 1;
+        *byte = high * 16 + low;
     }
 }

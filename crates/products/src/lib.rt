@@ -17,11 +17,7 @@ fn part_of(table: &[u8], start: usize, n: usize) -> [u8; MOST_SYMBOLS]
     ensures { result ≡ put (replicate most_symbols 0) 0 n (places_on table.now start) }
 {
     let mut row = [0u8; MOST_SYMBOLS];
-    let mut i = 0;
-    while i < n {
-        row[i] = table[start + i];
-        i += 1;
-    }
+    row[..n].copy_from_slice(&table[start..start + n]);
     row
 }
 
@@ -46,11 +42,8 @@ pub fn table_of(q: usize) -> [u8; TABLE_SIZE]
     if q == 4 {
         return tables::PRODUCTS_4;
     }
-    let products = tables::PRODUCTS_2;
     let mut table = [0u8; TABLE_SIZE];
-    for i in 0..16 {
-        table[i] = products[i];
-    }
+    table[..16].copy_from_slice(&tables::PRODUCTS_2);
     table
 }
 

@@ -13,6 +13,7 @@ pub use sizes::{
 };
 
 // Whether there is a field for this q.
+#[tactic(auto, unfolding(crate::specs::Rule::is_known))]
 pub fn is_known(q: usize) -> bool
     ensures { result ≡ is_known q }
 {
@@ -20,6 +21,7 @@ pub fn is_known(q: usize) -> bool
 }
 
 // The sum of two symbols: exclusive or, for every q that is known. No other crate knows what sums and differences are made of.
+#[tactic(auto, unfolding(crate::specs::Rule::sum_of))]
 pub fn sum(q: usize, a: u8, b: u8) -> u8
     ensures { result ≡ sum_of q a b }
 {
@@ -27,6 +29,7 @@ pub fn sum(q: usize, a: u8, b: u8) -> u8
 }
 
 // The difference of two symbols: minus equals plus, for every q that is known.
+#[tactic(auto, unfolding(crate::specs::Rule::difference_of))]
 pub fn difference(q: usize, a: u8, b: u8) -> u8
     ensures { result ≡ difference_of q a b }
 {
@@ -50,12 +53,5 @@ pub fn all_symbols(q: usize, list: &[u8]) -> bool
     ensures { result ≡ not (any_beyond q list.now) }
 {
     let size = (q * q) as u8;
-    let mut i = 0;
-    while i < list.len() {
-        if size <= list[i] {
-            return false;
-        }
-        i += 1;
-    }
-    true
+    list.iter().all(|&symbol| symbol < size)
 }

@@ -3,7 +3,6 @@ use mathlib.Core.Path.{◌≡◌, sym, ap, ◌∙◌}
 use Prim.Native.Nat.{◌+◌, ◌-◌, ◌*◌}
 use native.Mathlib.Omega.{arith}
 use lib.ListN.{replicate}
-use borrow.Author.Rules.{rules}
 use Rattle.lists.proofs.Put.{put-none, put_next}
 use Rattle.symbols.specs.Sizes.{most_q, most_symbols}
 use Rattle.symbols.proofs.Bytes.{known-high}
@@ -12,7 +11,7 @@ use Rattle.evaluation.proofs.Values.{column-value}
 use Rattle.evaluation.proofs.column.Goals as goal
 
 pub loop-j-init : goal.loop-j-init
-loop-j-init c = (omega arith, λ f held. sym (put-none _ _ _))
+loop-j-init c = λ f held. sym (put-none _ _ _)
 
 pub overflow_mul-start : goal.overflow_mul-start
 overflow_mul-start c = omega (arith, known-high _ c.requires.0)
@@ -24,16 +23,14 @@ pub slice_bounds-value_in-end : goal.slice_bounds-value_in-end
 slice_bounds-value_in-end c = omega (arith, known-high _ c.requires.0)
 
 pub loop-j-preserved : goal.loop-j-preserved
-loop-j-preserved c =
+loop-j-preserved c = λ f held.
     let q = c.args.q in
     let j = c.loop-j.j in
     let width = c.args.width in
-    let n : j * most_symbols + width - j * most_symbols ≡ width = omega arith in (
-      search rules,
-      λ f held. rw (c.loop-j.invariant.1 f held)
-          (put_next (replicate most_q 0) j (column_number q f width c.args.x) c.value_in.result
-          (column-value q c.requires.0 c.products_in-products.result c.value_in.result f c.args.places.now
-          c.args.x j (j * most_symbols + width - j * most_symbols)
-          (omega arith) (omega arith) c.requires.3 held c.products_in-products.ensures c.value_in.ensures
-          ∙ ap (λ m. column_number q f m c.args.x j) n)),
-    )
+    let n : j * most_symbols + width - j * most_symbols ≡ width = omega arith in
+    rw (c.loop-j.invariant f held)
+    (put_next (replicate most_q 0) j (column_number q f width c.args.x) c.value_in.result
+    (column-value q c.requires.0 c.products_in-products.result c.value_in.result f c.args.places.now
+    c.args.x j (j * most_symbols + width - j * most_symbols)
+    (omega arith) (omega arith) c.requires.3 held c.products_in-products.ensures c.value_in.ensures
+    ∙ ap (λ m. column_number q f m c.args.x j) n))

@@ -1,6 +1,5 @@
 -- `evaluation::column` meets its contract. The loop's invariant: the values for the powers of y passed. Assumes nothing.
 use mathlib.Core.Path.{◌≡◌}
-use Prim.Native.Nat.{◌-◌, ◌≤◌}
 use lib.ListN.{replicate}
 use Rattle.algebra.specs.Functions.{Fn}
 use Rattle.lists.specs.Tables.{put}
@@ -11,7 +10,4 @@ use Rattle.evaluation.proofs.column.Given as goal
 
 abbrev pub invariant-loop-j : goal.invariant-loop-j
 invariant-loop-j l =
-    (l.j ≤ l.q) × ((f : Fn (symbols l.q) l.q) → HoldsFunction l.q f l.places → l.values ≡ put (replicate most_q 0) 0 l.j (column_number l.q f l.width l.x))
-
-abbrev pub decreases-loop-j : goal.decreases-loop-j
-decreases-loop-j l = l.q - l.j
+    (f : Fn (symbols l.q) l.q) → HoldsFunction l.q f l.places → l.values ≡ put (replicate most_q 0) 0 l.j (column_number l.q f l.width l.x)

@@ -1,7 +1,6 @@
 -- `evaluation::fill_fibre` meets its contract. The loop's invariant: the values at the points passed. Assumes nothing.
 use mathlib.Core.Path.{◌≡◌}
-use Prim.Native.Nat.{ℕ, ◌-◌, ◌*◌, ◌≤◌}
-use lib.ListN.{length}
+use Prim.Native.Nat.{ℕ, ◌*◌}
 use Rattle.lists.specs.Tables.{put}
 use Rattle.symbols.specs.Rule.{Sym}
 use Rattle.evaluation.specs.Stages.{fibre_number}
@@ -10,7 +9,4 @@ use Rattle.evaluation.proofs.fill_fibre.Given as goal
 
 abbrev pub invariant-loop-b : goal.invariant-loop-b
 invariant-loop-b l =
-    (l.b ≤ l.q) × (length l.row ≡ length l.initial.row) × ((v : ℕ → Sym l.q) → Holds l.q l.values l.q v → l.row ≡ put l.initial.row (l.x * l.q) l.b (fibre_number l.q v l.x))
-
-abbrev pub decreases-loop-b : goal.decreases-loop-b
-decreases-loop-b l = l.q - l.b
+    (v : ℕ → Sym l.q) → Holds l.q l.values l.q v → l.row ≡ put l.initial.row (l.x * l.q) l.b (fibre_number l.q v l.x)

@@ -1,11 +1,10 @@
 -- `evaluation::value_in` meets its contract. The loop's invariant: the value of the coefficients passed. Assumes nothing.
-use Prim.Native.Nat.{◌<◌}
-use lib.ListN.{length}
+use mathlib.Core.Path.{◌≡◌}
+use lib.ListN.{length, take}
 use Rattle.evaluation.proofs.Horner.{IsPart}
 use Rattle.evaluation.proofs.value_in.Given as goal
 
-abbrev pub invariant-loop-i : goal.invariant-loop-i
-invariant-loop-i l = (l.i < length l.coefficients) × IsPart l.q l.products l.coefficients l.i l.value
-
-abbrev pub decreases-loop-i : goal.decreases-loop-i
-decreases-loop-i l = l.i
+abbrev pub invariant-loop-coefficient : goal.invariant-loop-coefficient
+invariant-loop-coefficient l =
+    let rest = l.coefficient-iterator.iter.rest.now in
+    (rest ≡ take (length rest) l.coefficients) × IsPart l.q l.products l.coefficients (length rest) l.value

@@ -1,4 +1,4 @@
--- `curve::ordinates` meets its contract. Assumes nothing.
+-- `ordinates::ordinates` meets its contract. Assumes nothing.
 use native.Mathlib.Omega.{arith}
 use borrow.Author.Tests.{eq-eqb, ne_eqb}
 use Rattle.ordinates.specs.Ordinates.{sets4, sets2, ordinate_set, ordinates_above}

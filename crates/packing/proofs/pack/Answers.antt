@@ -1,11 +1,10 @@
 -- `packing::pack` meets its contract: the goals that the check leaves open. Assumes nothing.
-use mathlib.Core.Path.{◌≡◌, refl, ap, ◌∙◌}
+use mathlib.Core.Path.{◌≡◌, sym, ap, ◌∙◌}
 use Prim.Native.Nat.{◌+◌, ◌*◌, ◌<◌}
 use native.Mathlib.Omega.{arith}
-use lib.ListN.{length, get_or, length-set}
-use borrow.Author.Rules.{rules}
-use Rattle.lists.specs.Tables.{from, tab}
-use Rattle.lists.proofs.Filled.{fill-next, fill-all}
+use lib.ListN.{length, get_or}
+use Rattle.lists.specs.Tables.{tab}
+use Rattle.lists.proofs.Filled.{fill_none, fill-next, fill-all}
 use Rattle.symbols.proofs.SymbolLists.{below_all}
 use Rattle.packing.specs.Packing.{packed_byte, packed, packed_q}
 use Rattle.packing.proofs.pack.Goals as goal
@@ -19,23 +18,19 @@ small c =
     (below (2 * c.loop-i.i) (omega arith), below (2 * c.loop-i.i + 1) (omega arith))
 
 pub loop-i-init : goal.loop-i-init
-unfolding tab from
-loop-i-init c = (search rules, refl, refl)
+loop-i-init c = sym (fill_none _ _)
 
-pub overflow_mul-bytes : goal.overflow_mul-bytes
-overflow_mul-bytes c = omega (arith, small (goal.at.overflow_mul-bytes c).In-loop-i)
+pub overflow_mul-byte : goal.overflow_mul-byte
+overflow_mul-byte c = omega (arith, small (goal.at.overflow_mul-byte c).In-loop-i)
 
-pub overflow_add-bytes : goal.overflow_add-bytes
-overflow_add-bytes c = omega (arith, small (goal.at.overflow_add-bytes c).In-loop-i)
+pub overflow_add-byte : goal.overflow_add-byte
+overflow_add-byte c = omega (arith, small (goal.at.overflow_add-byte c).In-loop-i)
 
 pub loop-i-preserved : goal.loop-i-preserved
 unfolding packed_byte
 loop-i-preserved c =
-    let start = c.args in (
-      search rules,
-      simp length-set c.loop-i.invariant.1,
-      rw c.loop-i.invariant.2 (fill-next (packed_byte start.symbols.now) c.loop-i.i start.bytes.now (omega arith)),
-    )
+    let start = c.args in
+    rw c.loop-i.invariant (fill-next (packed_byte start.symbols.now) c.loop-i.i start.bytes.now (omega arith))
 
 pub returns : goal.returns
 unfolding packed
@@ -43,4 +38,4 @@ returns c =
     let start = c.args in
     let f = packed_byte start.symbols.now in
     let end : c.loop-i.i ≡ length start.bytes.now = omega arith in
-    c.loop-i.invariant.2 ∙ fill-all f c.loop-i.i start.bytes.now (omega arith) ∙ ap (λ n. tab n f) end
+    c.loop-i.invariant ∙ fill-all f c.loop-i.i start.bytes.now (omega arith) ∙ ap (λ n. tab n f) end

@@ -1,15 +1,10 @@
 -- `packing::pack` meets its contract: after i bytes the first i are those of the symbols. Assumes nothing.
 use mathlib.Core.Path.{◌≡◌}
 use mathlib.Core.List.{◌++◌}
-use Prim.Native.Nat.{◌-◌, ◌≤◌}
-use lib.ListN.{length, drop}
+use lib.ListN.{drop}
 use Rattle.lists.specs.Tables.{tab}
 use Rattle.packing.specs.Packing.{packed_byte}
 use Rattle.packing.proofs.pack.Given as goal
 
 abbrev pub invariant-loop-i : goal.invariant-loop-i
-invariant-loop-i l =
-    (l.i ≤ length l.initial.bytes) × (length l.bytes ≡ length l.initial.bytes) × (l.bytes ≡ tab l.i (packed_byte l.symbols) ++ drop l.i l.initial.bytes)
-
-abbrev pub decreases-loop-i : goal.decreases-loop-i
-decreases-loop-i l = length l.initial.bytes - l.i
+invariant-loop-i l = l.bytes ≡ tab l.i (packed_byte l.symbols) ++ drop l.i l.initial.bytes

@@ -1,10 +1,14 @@
 -- `symbols::all_symbols` meets its contract: the goals that the check leaves open. Assumes nothing.
-use mathlib.Core.Path.{◌≡◌, ◌∙◌}
+use mathlib.Core.Path.{◌∙◌}
+use Prim.Native.Nat.{◌*◌}
 use native.Mathlib.Omega.{arith}
-use lib.ListN.{length}
+use lib.Dec.{ltb}
 use borrow.Author.Rules.{rules}
+use borrow.Author.Tests.{tests}
+use Rattle.std.proofs.lemmas.Iterator.{YieldsList-from_slice}
+use Rattle.std.proofs.lemmas.Iterator.Search.{all_from_yields_List}
 use Rattle.symbols.proofs.Bytes.{square-small}
-use Rattle.symbols.proofs.SymbolLists.{beyond-here, beyond-next, beyond-end}
+use Rattle.symbols.proofs.SymbolLists.{below-test}
 use Rattle.symbols.proofs.all_symbols.Goals as goal
 
 pub overflow_mul-size : goal.overflow_mul-size
@@ -13,22 +17,9 @@ overflow_mul-size c = omega (arith, square-small _ c.requires)
 pub overflow_cast-size : goal.overflow_cast-size
 overflow_cast-size c = omega (arith, square-small _ c.requires)
 
-pub returns-then-size-list : goal.returns-then-size-list
-returns-then-size-list c =
-    rw (
-      c.loop-i.invariant.1,
-      beyond-here c.args.q c.args.list.now c.loop-i.i (omega arith)
-          (omega arith),
-    )
-
-pub loop-i-preserved : goal.loop-i-preserved
-loop-i-preserved c = (
-  search rules,
-  c.loop-i.invariant.1
-      ∙ beyond-next c.args.q c.args.list.now c.loop-i.i (omega arith) (omega arith),
-)
-
 pub returns : goal.returns
 returns c =
-    let e : c.loop-i.i ≡ length c.args.list.now = omega arith in
-    rw (c.loop-i.invariant.1, e, beyond-end)
+    let q = c.args.q in
+    let list = c.args.list.now in
+    all_from_yields_List (λ a. ltb a (q * q)) _ _ _ c.all.ensures.ran (YieldsList-from_slice list cc) (λ x b f k. search (rules, tests))
+    ∙ below-test q list
