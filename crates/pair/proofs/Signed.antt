@@ -163,19 +163,19 @@ negative-yes (negsuc n) t = refl
 pub negative-no : (z : ℤ) → lt_z z (pos 0) ≡ false → is_negative z ≡ false
 unfolding is_negative
 negative-no (pos n) t = refl
-negative-no (negsuc n) t = let z : ◌≡◌ {A = ℕ} 0 1 = cc in absurd (omega arith)
+negative-no (negsuc n) t = t
 
 -- what is not negative is its positive part
 pub whole_is : (z : ℤ) → is_negative z ≡ false → z ≡ pos (positive_part z)
 unfolding is_negative positive_part
 whole_is (pos n) t = refl
-whole_is (negsuc n) t = let z : ◌≡◌ {A = ℕ} 0 1 = cc in absurd (omega arith)
+whole_is (negsuc n) t = cc
 
 -- as the test the other way round tells it
 pub whole-yes : (z : ℤ) → le_z (pos 0) z ≡ true → is_negative z ≡ false
 unfolding is_negative
 whole-yes (pos n) t = refl
-whole-yes (negsuc n) t = let z : ◌≡◌ {A = ℕ} 0 1 = cc in absurd (omega arith)
+whole-yes (negsuc n) t = sym t
 
 pub whole-no : (z : ℤ) → le_z (pos 0) z ≡ false → is_negative z ≡ true
 unfolding is_negative
@@ -186,42 +186,22 @@ whole-no (negsuc n) t = refl
 pub cast_fits : (z : ℤ) → nat_abs z ≤ most_shift → z ≡ pos (positive_part z) → T (non_neg z) × Fits w64 (nat_abs z)
 unfolding positive_part
 cast_fits (pos n) h e = (tt, omega arith)
-cast_fits (negsuc n) h e = let y : ◌≡◌ {A = ℕ} 0 1 = cc in absurd (omega arith)
+cast_fits (negsuc n) h e = absurd (cc)
 
--- c's sign picks the update: c itself is the shift where it is positive
-pub positive-yes : (z : ℤ) → lt_z (pos 0) z ≡ true → (z ≡ pos (positive_part z)) × (ltb 0 (positive_part z) ≡ true)
+-- c's sign picks the update, and the shift is c without its sign
+pub positive-yes : (z : ℤ) → lt_z (pos 0) z ≡ true → (nat_abs z ≡ positive_part z) × (ltb 0 (positive_part z) ≡ true)
 unfolding positive_part
 positive-yes (pos n) t = (refl, t)
-positive-yes (negsuc n) t = let z : ◌≡◌ {A = ℕ} 0 1 = cc in absurd (omega arith)
+positive-yes (negsuc n) t = absurd (cc)
 
--- and -c where it is not
-pub record Unraised (z : ℤ) : Type 0 where
-  pub none : positive_part z ≡ 0
-  pub shift : pos 0 -ℤ z ≡ pos (negative_part z)
-  pub small : negative_part z ≤ nat_abs z
-
-pub positive-no : (z : ℤ) → lt_z (pos 0) z ≡ false → Unraised z
+pub positive-no : (z : ℤ) → lt_z (pos 0) z ≡ false → (nat_abs z ≡ negative_part z) × (positive_part z ≡ 0)
 unfolding positive_part negative_part
-positive-no (pos zero) t = record { none = refl; shift = refl; small = omega arith }
+positive-no (pos zero) t = (refl, refl)
 positive-no (pos (suc n)) t = absurd (omega (arith, ltb-false 0 (suc n) t))
-positive-no (negsuc n) t = record { none = refl; shift = ap pos (omega arith); small = omega arith }
+positive-no (negsuc n) t = (refl, refl)
 
 -- a positive part is no larger
 pub positive-small : (z : ℤ) → positive_part z ≤ nat_abs z
 unfolding positive_part
 positive-small (pos n) = omega arith
 positive-small (negsuc n) = omega arith
-
--- -c, where c is not positive
-module _ (z : ℤ) (h : nat_abs z ≤ most_shift) (d : Unraised z) where
-  minus_is : pos 0 -ℤ to_z w64 (of_z w64 z) ≡ pos (negative_part z)
-  minus_is = rw (back z h) d.shift
-
-  pub minus-fits : SFits w64 (pos 0 -ℤ to_z w64 (of_z w64 z))
-  minus-fits = rw minus_is (record { sfits = omega (arith, d.small) })
-
-  pub minus-value : to_z w64 (of_z w64 (pos 0 -ℤ to_z w64 (of_z w64 z))) ≡ pos (negative_part z)
-  minus-value = to_z-of_z w64 _ minus-fits ∙ minus_is
-
-  pub minus-cast : T (non_neg (to_z w64 (of_z w64 (pos 0 -ℤ to_z w64 (of_z w64 z))))) × Fits w64 (nat_abs (to_z w64 (of_z w64 (pos 0 -ℤ to_z w64 (of_z w64 z)))))
-  minus-cast = rw minus-value (tt, omega (arith, d.small))

@@ -2,7 +2,7 @@
 #![tactic(auto)]
 
 // The numbers of pair i: `partner` is i'.
-#[derive(Clone, Copy)]
+#[derive(Clone, Copy, Default)]
 pub struct Pair {
     pub partner: usize,
     pub c: i64,

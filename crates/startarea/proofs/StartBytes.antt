@@ -6,7 +6,7 @@ use mathlib.Core.Logic.{◌⊎◌, inl, inr, ⊎_elim}
 use Prim.Native.Nat.{ℕ, ◌+◌, ◌-◌, ◌*◌, ◌<◌, ◌≤◌}
 use native.Mathlib.Nat.{add_assoc, add-zero}
 use native.Mathlib.Omega.{arith}
-use lib.ListN.{get_or, set, drop, replicate, length-replicate, get_or-replicate}
+use lib.ListN.{get_or, set, length-set, drop, replicate, length-replicate, get_or-replicate}
 use Rattle.lists.specs.Tables.{put}
 use Rattle.lists.proofs.Put.{put-none, put-more, put_same, put-out, put-kept, put-parts}
 use Rattle.lists.proofs.Grid.{grid, row_within, grid-is}
@@ -15,10 +15,10 @@ use Rattle.symbols.specs.Rule.{Known, Sym, number}
 use Rattle.symbols.proofs.FieldLaws.{laws-of}
 use Rattle.published.specs.Start.{width}
 use Rattle.published.specs.Picture.{area_size, layout}
-use Rattle.workarea.specs.Area.{Area, row_place, Cells, numbers, shown, with_rows}
+use Rattle.workarea.specs.Area.{row_place, Cells, numbers, shown, with_rows}
 use Rattle.startarea.specs.StartArea.{minus_value, minus_values, blank}
 use Rattle.workarea.proofs.Cells.{size_is, row_fits, shown_read, shown-put}
-use Rattle.workarea.proofs.Sizes.{sizes, row_small}
+use Rattle.workarea.proofs.Sizes.{sizes, row_small, area_of}
 
 -- zeros show the blank area
 blank-shown : (q : ℕ) → Known q → replicate (area_size q) 0 ≡ shown q (blank q)
@@ -51,15 +51,26 @@ values-more q l w to values products i e =
     rw (e, here) (put-more l to i f)
 
 -- the places of the three symbols of the first polynomials
-pub firsts-fit : {q n : ℕ} → Area q n → (row_place q q 0 < n) × (row_place q 0 q + 1 < n) × (row_place q 0 q + q * q < n) × (row_place q 0 q + q * q ≤ most_area)
-firsts-fit {q} area =
+pub record FirstsFit (q n : ℕ) : Type 0 where
+  pub one : row_place q q 0 < n
+  pub low : row_place q 0 q + 1 < n
+  pub high : row_place q 0 q + q * q < n
+  pub small : row_place q 0 q + q * q ≤ most_area
+  pub above : 1 ≤ q * q
+
+pub firsts_fit : {q n : ℕ} → Known q → area_size q ≤ n → FirstsFit q n
+firsts_fit {q} known room =
+    let area = area_of known room in
     let some = area.some in
     let f = row_fits q 0 area (omega arith) (omega arith) in
     let g = row_fits 0 q area (omega arith) (omega arith) in
     let small = row_small q 0 q area.known (omega arith) (omega arith) in
     let wide = area.square in
     let square = (sizes q area.known).square-some in
-    (omega arith, omega arith, omega arith, omega arith)
+    record { one = omega arith; low = omega arith; high = omega arith; small = omega arith; above = omega arith }
+
+-- the same after some of them are stored
+pub ruleset first_places = (firsts_fit, length-set)
 
 module _ (q : ℕ) (S : Cells q) (l rest : List ℕ) (e : l ≡ shown q S ++ rest) (p r : ℕ) (hp : p < 2 * q) (hr : r < 2 * q) where
   -- new symbols in n places of a row, from place c on

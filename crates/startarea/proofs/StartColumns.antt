@@ -20,7 +20,7 @@ use Rattle.symbols.specs.Sizes.{most_symbols, most_points}
 use Rattle.symbols.specs.Rule.{difference_of, Known, symbols, number, symbol}
 use Rattle.symbols.specs.Tables.{product_row, Holds}
 use Rattle.symbols.proofs.FieldLaws.{laws-of}
-use Rattle.symbols.proofs.Bytes.{number-of-difference, cube-small}
+use Rattle.symbols.proofs.Bytes.{number-of-difference, known-high, square-small, cube-small}
 use Rattle.curve.specs.Points.{point_at}
 use Rattle.curve.specs.Codes.{point_count}
 use Rattle.ordinates.specs.Ordinates.{ordinates_above}
@@ -35,6 +35,11 @@ use Rattle.workarea.proofs.Sizes.{sizes}
 use Rattle.workarea.proofs.Multipliers.{multiplies}
 use Rattle.startarea.proofs.StartBytes.{shown-places}
 use Rattle.startarea.proofs.StartFirsts.{minus_one, less_none}
+
+-- where the symbol of point b above the x with number a stands in the row
+pub record Place (q a b : ℕ) : Type 0 where
+  pub within : a * q + b < point_count q
+  pub low : a * q + b < most_points
 
 module _ (q : ℕ) (known : Known q) where
   infixl 65 ◌⊕◌ ◌⊖◌
@@ -53,9 +58,9 @@ module _ (q : ℕ) (known : Known q) where
   -- ---- the points above one x
 
   -- the place of their symbols in the row
-  pub point-place : (a b : ℕ) → a < q * q → b < q → (a * q + b < point_count q) × (a * q + b < most_points)
+  pub point-place : (a b : ℕ) → a < q * q → b < q → Place q a b
   unfolding point_count
-  point-place a b ha hb = let fits = row_fits q ha in let small = cube-small q known in (omega arith, omega arith)
+  point-place a b ha hb = let fits = row_fits q ha in let small = cube-small q known in record { within = omega arith; low = omega arith }
 
   -- the symbol of a symbol's number
   of_number : {b : ℕ} (a : K) → b ≡ number q a → symbol q b ≡ a
@@ -194,3 +199,6 @@ module _ (q : ℕ) (known : Known q) where
           (λ (l : q * q ≤ i).
           sum-none (laws-of q known) (q * q) (λ a ha. column-past row a j i l) ∙ sym (h-past (symbols q) q (map (symbol q) row) j i l))
           (lt-or-ge i (q * q))
+
+-- how large q and q² are, and where the symbols above an x stand
+pub ruleset column_places = (known-high, square-small, point-place)

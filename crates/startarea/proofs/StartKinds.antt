@@ -19,8 +19,8 @@ use Rattle.published.specs.Start.{width, upper, lower, of_table, vanishing, one,
 use Rattle.published.proofs.Reading.{row-part, row-power}
 use Rattle.published.proofs.StartLeads.{start_g-upper, start_g-lower, start_f-upper, start_f-lower}
 use Rattle.substitution.specs.Products.{Apart, function_of, low_function_of, plus_product, product_added, upper_of, lower_of}
+use Rattle.workarea.specs.declared.area.Row.{Row}
 use Rattle.workarea.specs.Area.{Multiplies, Cells}
-use Rattle.substitution.specs.declared.Part.{Part}
 use Rattle.startarea.specs.StartArea.{begun, multiple_added}
 use Rattle.workarea.proofs.FirstSymbols.{first-in}
 use Rattle.workarea.proofs.Cells.{rows_in, rows_out}
@@ -120,7 +120,7 @@ module _ (q : ℕ) (known : Known q) where
       rw (← one-is) (multiplies q 1 known)
 
   -- y^b times a part put where zeros were
-  made : (to from : Part) (b : ℕ) (S : Cells q) (F : Fn (symbols q) q) → ((j k : ℕ) → j < q → function_of q to S j k ≡ 𝟘)
+  made : (to from : Row) (b : ℕ) (S : Cells q) (F : Fn (symbols q) q) → ((j k : ℕ) → j < q → function_of q to S j k ≡ 𝟘)
       → ((j k : ℕ) → j < q → function_of q from S j k ≡ F j k) → (j k : ℕ) → j < q → k < width q
       → product_added q to from (width q) 0 b 𝟙 q S to.polynomial (to.row + j) k ≡ times_ys (symbols q) q b F j k
   unfolding product_added plus_product times_x
@@ -138,7 +138,7 @@ module _ (q : ℕ) (known : Known q) where
       plain y = simp (ring, laws-of q known)
 
   -- the rows of other parts stay
-  kept : (to from : Part) (b : ℕ) (S : Cells q) (p r k : ℕ) → (p ≡ to.polynomial → (r < to.row) ⊎ (to.row + q ≤ r))
+  kept : (to from : Row) (b : ℕ) (S : Cells q) (p r k : ℕ) → (p ≡ to.polynomial → (r < to.row) ⊎ (to.row + q ≤ r))
       → product_added q to from (width q) 0 b 𝟙 q S p r k ≡ S p r k
   unfolding product_added
   kept to from b S p r k out = rows_out q to.polynomial to.row q (plus_product q to from (width q) 0 b 𝟙 S) S p r k out

@@ -12,10 +12,12 @@ ghost use Rattle.workarea.specs.Area.{Area, Turns, shown};
 ghost use Rattle.symbols.specs.Tables.{Holds};
 ghost use Rattle.startarea.specs.StartArea.{minus_values, plus_part, column_sum, column_of, columns_of, rows_minus, blank, firsts, begun, multiple_added};
 
-use substitution::{Part, Powers};
+use curve::Powers;
 use symbols::{MOST_SYMBOLS, SYMBOL_PLACES};
+use workarea::Row;
 
 // Puts x^(q²) - x in the lower part of g_0 and 1 in the upper part of f_0.
+#[tactic(auto, using(crate::proofs::StartBytes::first_places))]
 fn put_firsts(work: &mut [u8], q: usize)
     requires { Area q (length work.old) }
     ensures { (rest : List ℕ) → work.old ≡ shown q (blank q) ++ rest → work.new ≡ shown q (firsts q) ++ rest }
@@ -43,9 +45,7 @@ fn add_part(
 {
     let mut result = sums;
     let mut term = factor;
-    let mut i = n;
-    while 0 < i {
-        i -= 1;
+    for i in (0..n).rev() {
         result[i] = symbols::sum(q, result[i], term);
         term = products[(term % SYMBOL_PLACES) as usize];
     }
@@ -54,6 +54,7 @@ fn add_part(
 }
 
 // The received symbols above the x with number a, times the parts in y of their points.
+#[tactic(auto, using(crate::proofs::StartColumns::column_places))]
 fn column_sums(table: &[u8], q: usize, row: &[u8], a: usize) -> [u8; MOST_SYMBOLS]
     requires known { Known q }
     requires row_len { (length row.now ≡ point_count q) × (any_beyond q row.now ≡ false) × HasProducts q table.now }
@@ -65,6 +66,7 @@ fn column_sums(table: &[u8], q: usize, row: &[u8], a: usize) -> [u8; MOST_SYMBOL
     for b in 0..q {
         let products = products::products_in(table, q, ordinates[b]);
         let received = row[a * q + b];
+        // a name of its own, since no proof is made where a call's answer is laid in an array
         let more = add_part(sums, q, q, products, received, received);
         sums = more;
     }
@@ -125,11 +127,11 @@ fn add_multiple(work: &mut [u8], q: usize, first: usize, row: usize, i: usize)
     requires first_le_q { (first ≤ q) × (row ≤ q) × (0 < i) × (i < q) }
     ensures { Turns q work.old work.new (multiple_added q first row i) }
 {
-    let to = Part {
+    let to = Row {
         polynomial: first + i,
         row,
     };
-    let from = Part {
+    let from = Row {
         polynomial: first,
         row,
     };
@@ -170,6 +172,7 @@ fn add_all_multiples(work: &mut [u8], q: usize)
 }
 
 // Puts the polynomials before the first step on a received row into the work area.
+#[tactic(auto, using(workarea::proofs::Cells::still, workarea::proofs::Sizes::area_of))]
 pub fn begin(table: &[u8], q: usize, row: &[u8], work: &mut [u8])
     requires known { Known q }
     requires row_len { (length row.now ≡ point_count q) × (any_beyond q row.now ≡ false) × HasProducts q table.now }

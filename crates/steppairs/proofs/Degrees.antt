@@ -1,12 +1,13 @@
--- The degree of a row, found from above.
+-- The degree of a row, and that a search from behind finds it.
 -- Assumes nothing.
 use mathlib.Core.Path.{◌≡◌, refl, sym, ◌∙◌, subst}
 use mathlib.Core.Bool.{Bool, true, false}
 use mathlib.Core.Logic.{⊎_elim}
-use Prim.Native.Nat.{ℕ, zero, suc, ◌-◌, ◌<◌, ◌≤◌}
+use Prim.Native.Nat.{ℕ, zero, suc, ◌<◌, ◌≤◌}
 use native.Mathlib.Omega.{arith}
 use borrow.Author.Tests.{eq-eqb, ne_eqb}
 use Rattle.lists.proofs.Numbers.{lt-or-ge, same_or_not}
+use Rattle.std.specs.Prelude.{List, length, get_or, Option, Some, None, MatchOption, unwrap_or}
 use Rattle.published.specs.Pairing.{degree}
 
 skip : (a : ℕ → ℕ) (n : ℕ) → a n ≡ 0 → degree a (suc n) ≡ degree a n
@@ -16,26 +17,6 @@ skip a n h = subst (λ (t : Bool). ◌≡◌ {A = ℕ} (elim t [ true ↦ degree
 found : (a : ℕ → ℕ) (n : ℕ) → (a n ≡ 0 → ⊥) → degree a (suc n) ≡ n
 unfolding degree
 found a n h = subst (λ (t : Bool). ◌≡◌ {A = ℕ} (elim t [ true ↦ degree a n | false ↦ n ]) n) (sym (ne_eqb (a n) 0 h)) refl
-
--- a zero on top is left out
-pub degree-skip : (a : ℕ → ℕ) (i : ℕ) → 0 < i → a (i - 1) ≡ 0 → degree a i ≡ degree a (i - 1)
-degree-skip a zero p h = absurd (omega arith)
-degree-skip a (suc n) p h = let e : suc n - 1 ≡ n = omega arith in rw e (skip a n (rw e at h))
-
--- what is not zero on top has the degree
-pub degree-found : (a : ℕ → ℕ) (i : ℕ) → 0 < i → (a (i - 1) ≡ 0 → ⊥) → degree a i ≡ i - 1
-degree-found a zero p h = absurd (omega arith)
-degree-found a (suc n) p h = let e : suc n - 1 ≡ n = omega arith in rw e (found a n (rw e at h))
-
--- of at most one coefficient the degree is 0
-degree-one : (a : ℕ → ℕ) → degree a 1 ≡ 0
-unfolding degree
-degree-one a = ⊎_elim (λ (e : a 0 ≡ 0). skip a 0 e) (λ ne. found a 0 ne) (same_or_not (a 0) 0)
-
-pub degree-none : (a : ℕ → ℕ) (i : ℕ) → i ≤ 1 → degree a i ≡ 0
-unfolding degree
-degree-none a zero h = refl
-degree-none a (suc i) h = let e : suc i ≡ 1 = omega arith in rw e (degree-one a)
 
 -- equal coefficients have the same degree
 pub degree-cong : (a b : ℕ → ℕ) → ((i : ℕ) → a i ≡ b i) → (n : ℕ) → degree a n ≡ degree b n
@@ -58,3 +39,18 @@ degree-above a h (suc n) l zeros =
   where
     small : (h ≡ suc n → ⊥) → h ≤ n
     small ne = ⊎_elim (λ (b : n < h). absurd (ne (omega arith))) (λ (b : h ≤ n). b) (lt-or-ge n h)
+
+-- a search from behind for what is not zero gave this
+abbrev pub Last : List ℕ → Option ℕ → Type 0
+Last row r =
+    MatchOption r ((k : ℕ) → k < length row → get_or row k 0 ≡ 0)
+    (λ i. (i < length row) × (get_or row i 0 ≡ 0 → ⊥) × ((k : ℕ) → i < k → k < length row → get_or row k 0 ≡ 0))
+
+-- so it gave the degree, 0 where there is nothing but zeros
+pub degree-last : (a : ℕ → ℕ) (row : List ℕ) (r : Option ℕ) → Last row r → ((k : ℕ) → k < length row → get_or row k 0 ≡ a k)
+    → degree a (length row) ≡ unwrap_or r 0
+unfolding degree
+degree-last a row None zeros same = degree-above a 0 (length row) (omega arith) (λ k h l. sym (same k l) ∙ zeros k l)
+degree-last a row (Some i) last same =
+    degree-above a (suc i) (length row) (omega arith) (λ k h l. sym (same k l) ∙ last.2 k (omega arith) l)
+    ∙ found a i (λ e. last.1 (same i last.0 ∙ e))

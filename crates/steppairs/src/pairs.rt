@@ -22,6 +22,7 @@ struct NamedSymbol {
 }
 
 // k, where total = qk + (q+1)i' with i' = total mod q: an exact division of a difference that may be negative.
+#[tactic(auto, using(pair::proofs::Signed::divided))]
 fn quotient_of(q: usize, total: usize) -> i64
     requires known { Known q }
     requires total_le_most_degree { total ≤ most_degree }
@@ -137,22 +138,14 @@ pub fn pairs_of(
     requires area { Area q (length work.now) }
     requires heights { Heights q heights.now }
     requires s_le_most_weight { (s ≤ most_weight) × HasProducts q table.now }
-    ensures by_index { (i : ℕ) → i < q → Held q (pair_at result i) }
+    ensures held { (i : ℕ) → i < q → Held q (pair_at result i) }
     ensures numbers_of { (S : Polynomials (symbols q) q) (u : ℕ) → Narrow q (cells_of q S) → WithinHeights q heights.now (cells_of q S)
         → Starts q work.now (cells_of q S) → is_voted q u s ≡ voted
         → (i : ℕ) → i < q → NumbersOf q (pair_at result i) (pairing (symbols q) q u s S i) }
 {
-    let none = Pair {
-        partner: 0,
-        c: 0,
-        w: 0,
-        mu: 0,
-        nu: 0,
-    };
-    let mut pairs = [none; MOST_Q];
+    let mut pairs = [Pair::default(); MOST_Q];
     for i in 0..q {
-        let pair = pair_of(table, work, q, heights, i, s, voted);
-        pairs[i] = pair;
+        pairs[i] = pair_of(table, work, q, heights, i, s, voted);
     }
     pairs
 }

@@ -13,6 +13,7 @@ pub struct RowLead {
 }
 
 // The leading symbol of row r of polynomial p, which has no symbol but zero from `height` on.
+#[tactic(auto, using(workarea::proofs::Cells::row_fits, workarea::proofs::Sizes::row_small))]
 pub fn leading_below(work: &[u8], q: usize, p: usize, r: usize, height: usize) -> RowLead
     requires area { Area q (length work.now) }
     requires p_bound { (p < 2 * q) × (r < 2 * q) × (height ≤ width q) }
@@ -20,19 +21,11 @@ pub fn leading_below(work: &[u8], q: usize, p: usize, r: usize, height: usize) -
     ensures leading_of { (S : Cells q) → Starts q work.now S → Short q height (S p r) → LeadingOf q result (S p r) }
 {
     let at = workarea::row_place(q, p, r);
-    let mut i = height;
-    while 1 < i {
-        i -= 1;
-        if work[at + i] != 0 {
-            return RowLead {
-                degree: i,
-                coefficient: work[at + i],
-            };
-        }
-    }
+    let row = &work[at..at + height];
+    let degree = row.iter().rposition(|symbol| *symbol != 0).unwrap_or(0);
     RowLead {
-        degree: 0,
-        coefficient: work[at],
+        degree,
+        coefficient: work[at + degree],
     }
 }
 
@@ -47,6 +40,7 @@ pub fn leading_of(work: &[u8], q: usize, p: usize, r: usize) -> RowLead
 }
 
 // The coefficient of x^i in row r of polynomial p, 0 past the width.
+#[tactic(auto, using(workarea::proofs::Cells::row_fits, workarea::proofs::Sizes::row_small))]
 pub fn coefficient_at(work: &[u8], q: usize, p: usize, r: usize, i: usize) -> u8
     requires area { Area q (length work.now) }
     requires p_bound { (p < 2 * q) × (r < 2 * q) }

@@ -11,6 +11,10 @@ use lib.Dec.{eqb}
 use lib.ListN.{length, get_or, set}
 use lib.Seq.{get_or-set_same, get_or-set_other}
 use borrow.Author.Tests.{eq-eqb, ne_eqb}
+use lib.IntN.{ℤ, pos, negsuc, nat_abs}
+use Rattle.std.specs.Prelude.{Result, Ok, Err}
+use Rattle.std.specs.Result.{OkIff, result_unwrap_or}
+use Rattle.std.specs.Int.{FitsUnsignedBits}
 use Rattle.lists.specs.Tables.{from, tab}
 use Rattle.lists.proofs.Numbers.{same_or_not}
 use Rattle.lists.proofs.Tables.{tab-more}
@@ -68,6 +72,15 @@ module _ (q : ℕ) where
 
       miss : (w ≡ a → ⊥) → share (P i) a ≡ 0
       miss ne = rw (ne_eqb (number q (P i).w) a (λ e. ne (ew ∙ e)))
+
+-- a c that is converted to a number gives its positive part: a negative one counts nothing
+pub converted : {E : Type 0} (z : ℤ) (r : Result ℕ E) → nat_abs z ≤ most_shift → OkIff r (FitsUnsignedBits 64 z) (nat_abs z)
+    → result_unwrap_or r 0 ≡ positive_part z
+unfolding positive_part
+converted (pos n) (Ok m) small e = e.1
+converted (pos n) (Err why) small e = absurd (e (omega arith))
+converted (negsuc n) (Ok m) small e = absurd e.0
+converted (negsuc n) (Err why) small e = refl
 
 -- the scores stay small
 pub bounded-more : (scores : List ℕ) (w gain most : ℕ) → w < length scores → gain ≤ most_shift → ((a : ℕ) → get_or scores a 0 ≤ most)

@@ -10,8 +10,8 @@ use Rattle.lists.proofs.Numbers.{lt-or-ge}
 use Rattle.symbols.specs.Rule.{Known, symbols}
 use Rattle.symbols.proofs.FieldLaws.{laws-of}
 use Rattle.substitution.specs.Products.{Apart, source_row, source_shift, function_of, low_function_of, plus_product, product_row_added, product_added}
+use Rattle.workarea.specs.declared.area.Row.{Row}
 use Rattle.workarea.specs.Area.{Cells, with_rows, plus_multiple, minus_multiple, row_made, row_added, row_subtracted}
-use Rattle.substitution.specs.declared.Part.{Part}
 use Rattle.workarea.proofs.Cells.{rows_in, rows_out, rows_are, row_here, row-there, row_is}
 use Rattle.workarea.proofs.FirstSymbols.{first_cong, first_out}
 use Rattle.workarea.proofs.RowLaws.{multiple-is}
@@ -31,7 +31,7 @@ module _ (q : ℕ) (known : Known q) where
   product-cong a b F G j i h hj =
       shift-cong (symbols q) q a i (λ n l. times_ys-cong (symbols q) q F G b j n (λ k m hk hm. h k m hk (omega arith)) hj)
 
-  module _ (to from : Part) (height a b : ℕ) (ρ : K) where
+  module _ (to from : Row) (height a b : ℕ) (ρ : K) where
     -- a row of a part plus a product
     pub plus_product-is : (S : Cells q) (j i : ℕ) → plus_product q to from height a b ρ S j i
         ≡ function_of q to S j i ⊕ ρ ⊗ times_x (symbols q) q a (times_ys (symbols q) q b (low_function_of q height from S)) j i
@@ -164,7 +164,7 @@ module _ (q : ℕ) (known : Known q) where
         (λ e. ⊎_elim (λ (h : r < to.row). inl h) (λ (h : to.row ≤ r). inr (omega arith)) (lt-or-ge r to.row)))
 
   -- where no row of the other part has a symbol, nothing is added
-  pub product-nothing : (to from : Part) (a b : ℕ) (ρ : K) (n : ℕ) → n ≤ q → (S : Cells q) (p r i : ℕ) → S p r i ≡ product_added q to from 0 a b ρ n S p r i
+  pub product-nothing : (to from : Row) (a b : ℕ) (ρ : K) (n : ℕ) → n ≤ q → (S : Cells q) (p r i : ℕ) → S p r i ≡ product_added q to from 0 a b ρ n S p r i
   unfolding product_added times_x
   product-nothing to from a b ρ n few S =
       rows_are q to.polynomial to.row n (plus_product q to from 0 a b ρ S) S S

@@ -10,13 +10,10 @@ use native.Mathlib.Omega.{arith}
 use lib.Dec.{eqb}
 use lib.ListN.{get_or}
 use borrow.Author.Tests.{eq-eqb, ne_eqb}
-use Rattle.algebra.specs.Weights.{x_power, y_power, gap}
+use Rattle.algebra.specs.Weights.{x_power, y_power}
 use Rattle.algebra.specs.Functions.{times_x, times_ys, times_monomial}
 use Rattle.lists.proofs.Numbers.{lt-or-ge, same_or_not}
 use Rattle.symbols.specs.Rule.{Known, symbols, number}
-use Rattle.curve.specs.declared.Monomial.{Monomial}
-use Rattle.curve.specs.declared.Monomial.TheVariants.{Gap, Powers}
-use Rattle.curve.specs.Answers.{monomial_of}
 use Rattle.published.specs.Start.{Polynomials, coefficient, polynomials, width, upper, lower}
 use Rattle.published.specs.Steps.{substituted_part, substituted}
 use Rattle.workarea.specs.Area.{cells_of, Cells}
@@ -29,22 +26,7 @@ use Rattle.substitution.proofs.ProductCells.{product-cong, plus_product-is}
 use Rattle.substitution.proofs.ReplaceCells.{replaced-yes}
 use Rattle.workarea.proofs.Coefficients.{upper-cell, lower-cell, upper-row, lower-row, cell-polynomials}
 
--- the powers of a weight that is no gap
-powers-are : (q s : ℕ) → gap q s ≡ false → monomial_of q s ≡ Powers (x_power q s) (y_power q s)
-unfolding monomial_of
-powers-are q s e = subst (λ (t : Bool). ◌≡◌ {A = Monomial} (elim t [ true ↦ Gap | false ↦ Powers (x_power q s) (y_power q s) ]) (Powers (x_power q s) (y_power q s))) (sym e) refl
-
-pub powers-of : (q s : ℕ) (m : Monomial) (x y : ℕ) → gap q s ≡ false → m ≡ monomial_of q s → m ≡ Powers x y → (x ≡ x_power q s) × (y ≡ y_power q s)
-powers-of q s m x y e is this = let same = powers-are q s e in (cc, cc)
-
--- such a weight is not said to be a gap
-pub not-gap : (q s : ℕ) (m : Monomial) → gap q s ≡ false → m ≡ monomial_of q s → m ≡ Gap → ⊥
-not-gap q s m e is this =
-    let same = powers-are q s e in
-    let z : ◌≡◌ {A = ℕ} 0 1 = cc in
-    omega arith
-
--- they are small
+-- the powers of a weight are small
 pub powers-small : (q s : ℕ) → 0 < q → (y_power q s < q) × (x_power q s ≤ s)
 unfolding x_power y_power
 powers-small q s h = (mod-lt s h, omega (arith, div-le_self (s - (q + 1) * (s % q)) q))

@@ -3,11 +3,11 @@
 use Rattle.std.specs.Prelude.{◌≡◌, true, false, List, ℕ, ◌+◌, ◌-◌, ◌*◌, ◌<◌, ◌≤◌, leb, ltb, get_or}
 use Rattle.algebra.specs.Functions.{Fn, times_x, times_ys}
 use Rattle.symbols.specs.Rule.{symbols}
+use Rattle.workarea.specs.declared.area.Row.{Row}
 use Rattle.workarea.specs.Area.{Cells, with_rows, first_symbols}
-use Rattle.substitution.specs.declared.Part.{Part}
 
 -- two parts of polynomials, with no row in common
-pub record Apart (q : ℕ) (to from : Part) : Type 0 where
+pub record Apart (q : ℕ) (to from : Row) : Type 0 where
   pub to-polynomial : to.polynomial < 2 * q
   pub to_row : to.row ≤ q
   pub from-polynomial : from.polynomial < 2 * q
@@ -28,30 +28,30 @@ module _ (q : ℕ) where
   open symbols q use {K, ◌⊕◌, ◌⊗◌}
 
   -- a part of a polynomial as a function
-  abbrev pub function_of : Part → Cells q → Fn (symbols q) q
+  abbrev pub function_of : Row → Cells q → Fn (symbols q) q
   function_of part S j i = S part.polynomial (part.row + j) i
 
   -- the first h symbols of each of its rows
-  abbrev pub low_function_of : ℕ → Part → Cells q → Fn (symbols q) q
+  abbrev pub low_function_of : ℕ → Row → Cells q → Fn (symbols q) q
   low_function_of h part S j = first_symbols q h (function_of part S j)
 
   -- row j of a part plus ρ·x^a·y^b times the first h symbols of the rows of a part
-  unfoldable pub plus_product : Part → Part → ℕ → ℕ → ℕ → K → Cells q → ℕ → ℕ → K
+  unfoldable pub plus_product : Row → Row → ℕ → ℕ → ℕ → K → Cells q → ℕ → ℕ → K
   plus_product to from h a b ρ S j i = function_of to S j i ⊕ ρ ⊗ times_x (symbols q) q a (times_ys (symbols q) q b (low_function_of h from S)) j i
 
   -- row j of a part becomes that
-  unfoldable pub product_row_added : Part → Part → ℕ → ℕ → ℕ → ℕ → K → Cells q → Cells q
+  unfoldable pub product_row_added : Row → Row → ℕ → ℕ → ℕ → ℕ → K → Cells q → Cells q
   product_row_added to from j h a b ρ S = with_rows q to.polynomial (to.row + j) 1 (λ n. plus_product to from h a b ρ S j) S
 
   -- the first n rows of a part become that
-  unfoldable pub product_added : Part → Part → ℕ → ℕ → ℕ → K → ℕ → Cells q → Cells q
+  unfoldable pub product_added : Row → Row → ℕ → ℕ → ℕ → K → ℕ → Cells q → Cells q
   product_added to from h a b ρ n S = with_rows q to.polynomial to.row n (plus_product to from h a b ρ S) S
 
   -- the parts of polynomial p
-  abbrev pub upper_of : ℕ → Part
+  abbrev pub upper_of : ℕ → Row
   upper_of p = record { polynomial = p; row = 0 }
 
-  abbrev pub lower_of : ℕ → Part
+  abbrev pub lower_of : ℕ → Row
   lower_of p = record { polynomial = p; row = q }
 
   -- z becomes z + ρ·x^a·y^b in the first n polynomials, for the first symbols of their upper rows, by the polynomials' heights

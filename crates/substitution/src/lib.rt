@@ -12,23 +12,9 @@ ghost use Rattle.workarea.specs.Area.{Area, cells_of, Turns, Becomes, Multiplies
 ghost use Rattle.substitution.specs.Products.{Apart, source_row, source_shift, product_row_added, product_added, replaced_z};
 ghost use Rattle.workarea.specs.Heights.{WithinHeights};
 
-use curve::Monomial;
+use curve::Powers;
 use symbols::MOST_SYMBOLS;
-use workarea::{MINUS, PLUS, Row};
-
-// A part of a polynomial: its q rows from `row` on.
-#[derive(Clone, Copy)]
-pub struct Part {
-    pub polynomial: usize,
-    pub row: usize,
-}
-
-// The powers of x and y of a monomial.
-#[derive(Clone, Copy)]
-pub struct Powers {
-    pub x: usize,
-    pub y: usize,
-}
+use workarea::{Row, Sign};
 
 // The row that row j of y^b times a part comes from, and how far it is moved up.
 #[derive(Clone, Copy)]
@@ -38,19 +24,21 @@ struct Source {
 }
 
 // y^q is rewritten as x^(q+1) - y; this is the row that comes by the first, or unchanged.
+#[tactic(auto, unfolding(crate::specs::Products::source_row, crate::specs::Products::source_shift))]
 fn source_of(q: usize, b: usize, j: usize) -> Source
     requires { (q ≤ most_q) × (b < q) × (j < q) }
     ensures { (result.row ≡ source_row q b j) × (result.shift ≡ source_shift q b j) × (result.row < q) × (result.shift ≤ q + 1) }
 {
     if b <= j {
-        return Source {
+        Source {
             row: j - b,
             shift: 0,
-        };
-    }
-    Source {
-        row: j + q - b,
-        shift: q + 1,
+        }
+    } else {
+        Source {
+            row: j + q - b,
+            shift: q + 1,
+        }
     }
 }
 
@@ -59,8 +47,8 @@ fn source_of(q: usize, b: usize, j: usize) -> Source
 fn add_product_row(
     work: &mut [u8],
     q: usize,
-    to: Part,
-    from: Part,
+    to: Row,
+    from: Row,
     j: usize,
     height: usize,
     powers: Powers,
@@ -85,17 +73,14 @@ fn add_product_row(
     workarea::change_row(
         work,
         q,
-        PLUS,
+        Sign::Plus,
         target,
         main,
         height,
         a + source.shift,
         products,
     );
-    if j == 0 {
-        return;
-    }
-    if b < j {
+    if j == 0 || b < j {
         return;
     }
     // the y of x^(q+1) - y comes round to this row too
@@ -103,15 +88,15 @@ fn add_product_row(
         polynomial: from.polynomial,
         row: from.row + (j + q - b - 1),
     };
-    workarea::change_row(work, q, MINUS, target, round, height, a, products);
+    workarea::change_row(work, q, Sign::Minus, target, round, height, a, products);
 }
 
 // The same in all rows of the part; there is nothing to do where none has a symbol.
 pub fn add_product(
     work: &mut [u8],
     q: usize,
-    to: Part,
-    from: Part,
+    to: Row,
+    from: Row,
     height: usize,
     powers: Powers,
     products: [u8; MOST_SYMBOLS],
@@ -145,11 +130,11 @@ pub fn replace_z(
         → Turns q work.old work.new (replaced_z q heights.now powers.x powers.y ρ (2 * q)) }
 {
     for p in 0..2 * q {
-        let upper = Part {
+        let upper = Row {
             polynomial: p,
             row: 0,
         };
-        let lower = Part {
+        let lower = Row {
             polynomial: p,
             row: q,
         };
@@ -168,10 +153,9 @@ pub fn substitute(table: &[u8], work: &mut [u8], q: usize, heights: &[usize], s:
     if vote == 0 {
         return;
     }
-    let monomial = curve::monomial_of(q, s);
-    let Monomial::Powers { x, y } = monomial else {
+    let Some(powers) = curve::monomial_of(q, s) else {
         return;
     };
     let products = products::products_in(table, q, vote);
-    replace_z(work, q, heights, Powers { x, y }, products);
+    replace_z(work, q, heights, powers, products);
 }

@@ -15,9 +15,10 @@ ghost use Rattle.pair.specs.Pairs.{Held, NumbersOf, pair_at};
 
 use pair::Pair;
 use symbols::{MOST_Q, MOST_SYMBOLS};
-use workarea::{MINUS, Row};
+use workarea::{Row, Sign};
 
 // How many symbols of row r are subtracted: of an upper row no more than there are.
+#[tactic(auto, unfolding(crate::specs::Updates::row_height))]
 fn row_height(q: usize, r: usize, height: usize) -> usize
     requires { Known q }
     ensures { result ≡ row_height q height r }
@@ -50,7 +51,7 @@ fn reduce_polynomial(
             polynomial: g,
             row: r,
         };
-        workarea::change_row(work, q, MINUS, to, from, count, shift, products);
+        workarea::change_row(work, q, Sign::Minus, to, from, count, shift, products);
     }
 }
 
@@ -84,7 +85,7 @@ fn ratio_of(table: &[u8], q: usize, vote: u8, w: u8, mu: u8, nu: u8) -> u8
     products::product_in(table, q, product, inverse)
 }
 
-// What pair i does after the substitution: an exchange where c > 0, else f_i is reduced, with -c for the shift.
+// What pair i does after the substitution: an exchange where c > 0, else f_i is reduced; the shift is c without its sign.
 fn change(
     table: &[u8],
     work: &mut [u8],
@@ -97,29 +98,26 @@ fn change(
     requires area { Area q (length work.old) }
     requires heights { Heights q heights.old }
     requires i_lt_q { (i < q) × Held q pair × HasProducts q table.now }
-    ensures heights_2 { Heights q heights.new }
+    ensures heights_left { Heights q heights.new }
     ensures becomes_below { (S : Polynomials (symbols q) q) (ω : Sym q) (P : Pairing (symbols q) q) → vote ≡ number q ω → NumbersOf q pair P
         → WithinHeights q heights.old (cells_of q S)
         → BecomesBelow q work.old work.new S (changed (symbols q) q ω i P S) heights.new }
 {
-    let w = pair.w;
-    if w == vote {
+    if pair.w == vote {
         return;
     }
-    let ratio = ratio_of(table, q, vote, w, pair.mu, pair.nu);
+    let ratio = ratio_of(table, q, vote, pair.w, pair.mu, pair.nu);
     let products = products::products_in(table, q, ratio);
     let f = q + i;
     let g = pair.partner;
-    let c = pair.c;
-    if 0 < c {
-        let shift = c as usize;
+    let shift = pair.c.unsigned_abs() as usize;
+    if 0 < pair.c {
         exchange_polynomials(work, q, f, g, shift, products);
         heights::exchange_heights(heights, q, f, g, shift);
-        return;
+    } else {
+        reduce_polynomial(work, q, f, g, heights[g], shift, products);
+        heights::add_heights(heights, q, f, g, shift);
     }
-    let shift = -c as usize;
-    reduce_polynomial(work, q, f, g, heights[g], shift, products);
-    heights::add_heights(heights, q, f, g, shift);
 }
 
 // The update of all pairs.
@@ -133,14 +131,13 @@ pub fn change_all(
 )
     requires area { Area q (length work.old) }
     requires heights { Heights q heights.old }
-    requires by_index { ((i : ℕ) → i < q → Held q (pair_at pairs i)) × HasProducts q table.now }
-    ensures heights_2 { Heights q heights.new }
+    requires held { ((i : ℕ) → i < q → Held q (pair_at pairs i)) × HasProducts q table.now }
+    ensures heights_left { Heights q heights.new }
     ensures becomes_below { (S : Polynomials (symbols q) q) (ω : Sym q) (P : ℕ → Pairing (symbols q) q) → vote ≡ number q ω
         → ((i : ℕ) → i < q → NumbersOf q (pair_at pairs i) (P i)) → WithinHeights q heights.old (cells_of q S)
         → BecomesBelow q work.old work.new S (updated (symbols q) q ω (tab q P) S q) heights.new }
 {
-    for i in 0..q {
-        let pair = pairs[i];
-        change(table, work, q, heights, i, pair, vote);
+    for (i, pair) in pairs[..q].iter().enumerate() {
+        change(table, work, q, heights, i, *pair, vote);
     }
 }

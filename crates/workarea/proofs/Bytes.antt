@@ -1,14 +1,12 @@
 -- One turn of each loop over the bytes of rows: what it reads, no turn before has changed.
 -- Assumes nothing.
-use mathlib.Core.Path.{◌≡◌, refl, sym, ap, ◌∙◌}
-use mathlib.Core.List.{List, [], ◌∷◌, ◌++◌, append_assoc}
+use mathlib.Core.Path.{◌≡◌, refl, ap, ◌∙◌}
+use mathlib.Core.List.{List}
 use mathlib.Core.Logic.{◌⊎◌, inl, inr, ⊎_elim}
-use Prim.Native.Nat.{ℕ, suc, ◌+◌, ◌-◌, ◌<◌, ◌≤◌}
+use Prim.Native.Nat.{ℕ, ◌+◌, ◌-◌, ◌<◌, ◌≤◌}
 use native.Mathlib.Nat.{add-zero}
-use native.Mathlib.Numerals.{add-one}
 use native.Mathlib.Omega.{arith}
-use lib.ListN.{length, get_or, set, drop, replicate, length-replicate, replicate-append-replicate}
-use lib.Seq.{drop-cons, set_at}
+use lib.ListN.{get_or, set}
 use Rattle.lists.specs.Tables.{put}
 use Rattle.lists.proofs.Put.{put-none, put-more, put-out, put_same, put-parts-back, set-put}
 use Rattle.workarea.specs.Area.{made_byte, made, raised_byte, exchanged_above, negative_byte, exchanged_below}
@@ -97,11 +95,3 @@ below_more q l w f g count products i apart more e =
     (ap (λ (w : List ℕ). set w (g + i) (G i)) (set-put (put l f i F) g i G (f + i) (F i) (⊎_elim (λ p. inl (omega arith)) (λ p. inr (omega arith)) apart))
     ∙ put-more (set (put l f i F) (f + i) (F i)) g i G
     ∙ ap (λ (w : List ℕ). put w g (i + 1) G) (put-more l f i F))
-
--- one byte more is zero
-pub cleared_more : (l : List ℕ) (i : ℕ) → i < length l → set (replicate i 0 ++ drop i l) i 0 ≡ replicate (i + 1) 0 ++ drop (i + 1) l
-cleared_more l i h =
-    rw (drop-cons l i 0 h, add-one)
-    (set_at (replicate i 0) (get_or l i 0) (drop (suc i) l) 0 i (length-replicate i 0)
-    ∙ sym (append_assoc (replicate i 0) (0 ∷ []) (drop (suc i) l))
-    ∙ ap (λ (w : List ℕ). w ++ drop (suc i) l) (replicate-append-replicate i 1 0 ∙ ap (λ (n : ℕ). replicate n 0) (add-one i)))

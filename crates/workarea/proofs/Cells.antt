@@ -31,10 +31,10 @@ unfolding row_place
 row_fits {q} p r area hp hr = omega (arith, area.room, size_is q, row_within (2 * q) (2 * q) (width q) p r hp hr)
 
 -- two rows of the area are apart
-pub rows-differ : (q p r p' r' : ℕ) → r < 2 * q → r' < 2 * q → (p ≡ p' → r ≡ r' → ⊥)
+pub rows_differ : (q p r p' r' : ℕ) → r < 2 * q → r' < 2 * q → (p ≡ p' → r ≡ r' → ⊥)
     → (row_place q p r + width q ≤ row_place q p' r') ⊎ (row_place q p' r' + width q ≤ row_place q p r)
 unfolding row_place
-rows-differ q p r p' r' = rows_apart (2 * q) (2 * q) (width q) p r p' r'
+rows_differ q p r p' r' = rows_apart (2 * q) (2 * q) (width q) p r p' r'
 
 -- another list of the same length has the same room
 pub still : {q n m : ℕ} → Area q n → m ≡ n → Area q m

@@ -1,7 +1,6 @@
 -- What the loops over the bytes of rows do to the cells that the bytes show.
 -- Assumes nothing.
 use mathlib.Core.Path.{◌≡◌, refl, sym, ap, ◌∙◌}
-use mathlib.Core.Bool.{Bool, true, false}
 use mathlib.Core.List.{List, ◌++◌}
 use mathlib.Core.Logic.{◌⊎◌, inl, inr, ⊎_elim}
 use Prim.Native.Nat.{ℕ, ◌+◌, ◌-◌, ◌*◌, ◌%◌, ◌<◌, ◌≤◌}
@@ -18,6 +17,8 @@ use Rattle.symbols.specs.Rule.{Known, difference_of, symbols, number}
 use Rattle.symbols.proofs.FieldLaws.{laws-of}
 use Rattle.symbols.proofs.Bytes.{number-of-sum, number-of-difference, number-of-negative}
 use Rattle.published.specs.Start.{width}
+use Rattle.workarea.specs.declared.rows.Sign.{Sign}
+use Rattle.workarea.specs.declared.rows.Sign.TheVariants.{Plus, Minus}
 use Rattle.workarea.specs.Area.{numbers_made, made_byte, made, raised_byte, exchanged_above, negative_byte, exchanged_below, row_place, Counted, Cells, shown, Multiplies, with_rows, first_symbols, symbols_made, with_multiple, row_made, raised_minus}
 use Rattle.workarea.proofs.Cells.{shown_read, shown-put}
 use Rattle.workarea.proofs.Bytes.{made_none}
@@ -34,9 +35,9 @@ module _ (q : ℕ) (known : Known q) where
     pub none : (a : K) → operation a 𝟘 ≡ a
 
   -- a sum, or a difference
-  pub signed : (minus : Bool) → Operation (symbols_made q minus) (numbers_made q minus)
-  signed true = record { numbers = number-of-difference q known; none = λ a. simp (ring, laws-of q known) }
-  signed false = record { numbers = number-of-sum q known; none = add-zero (laws-of q known) }
+  pub signed : (sign : Sign) → Operation (symbols_made q sign) (numbers_made q sign)
+  signed Plus = record { numbers = number-of-sum q known; none = add-zero (laws-of q known) }
+  signed Minus = record { numbers = number-of-difference q known; none = λ a. simp (ring, laws-of q known) }
 
   module _ (operation : K → K → K) where
     -- a row and a multiple of a row

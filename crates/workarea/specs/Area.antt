@@ -1,7 +1,7 @@
 -- The work area as cells, one symbol for each polynomial, row and power of x, and what the code's loops do to the cells.
 -- Row r of a polynomial is the one of y^(r mod q) in part r / q. Document 01, "Lent areas".
 -- Assumes nothing.
-use Rattle.std.specs.Prelude.{◌≡◌, Bool, true, false, cond, ◌&&◌, List, ◌++◌, ◌⊎◌, ℕ, ◌+◌, ◌-◌, ◌*◌, ◌/◌, ◌%◌, ◌<◌, ◌≤◌, eqb, leb, ltb, get_or}
+use Rattle.std.specs.Prelude.{◌≡◌, true, false, ◌&&◌, List, ◌++◌, ◌⊎◌, ℕ, ◌+◌, ◌-◌, ◌*◌, ◌/◌, ◌%◌, ◌<◌, ◌≤◌, eqb, leb, ltb, get_or}
 use Rattle.algebra.specs.Functions.{shift}
 use Rattle.lists.specs.Tables.{put}
 use Rattle.symbols.specs.Sizes.{most_q, most_symbols, most_width}
@@ -9,12 +9,15 @@ use Rattle.symbols.specs.Rule.{Known, sum_of, difference_of, symbols, number}
 use Rattle.published.specs.Start.{Polynomials, coefficient, width}
 use Rattle.published.specs.Picture.{area_size, layout, picture}
 use Rattle.workarea.specs.declared.area.Row.{Row}
+use Rattle.workarea.specs.declared.rows.Sign.{Sign}
+use Rattle.workarea.specs.declared.rows.Sign.TheVariants.{Plus, Minus}
 
 -- ---- the bytes of a row
 
 -- the numbers of a sum, or of a difference
-abbrev pub numbers_made : ℕ → Bool → ℕ → ℕ → ℕ
-numbers_made q minus = cond minus (difference_of q) (sum_of q)
+abbrev pub numbers_made : ℕ → Sign → ℕ → ℕ → ℕ
+numbers_made q Plus = sum_of q
+numbers_made q Minus = difference_of q
 
 -- the byte at `to` and the one at `from` times what `products` is the table row of, made one by an operation: sum or difference
 abbrev pub made_byte : (ℕ → ℕ → ℕ) → List ℕ → ℕ → ℕ → List ℕ → ℕ → ℕ
@@ -128,8 +131,9 @@ module _ (q : ℕ) where
   first_symbols h a i = elim (ltb i h) [ true ↦ a i | false ↦ 𝟘 ]
 
   -- a sum, or a difference
-  abbrev pub symbols_made : Bool → K → K → K
-  symbols_made minus = cond minus ◌⊖◌ ◌⊕◌
+  abbrev pub symbols_made : Sign → K → K → K
+  symbols_made Plus = ◌⊕◌
+  symbols_made Minus = ◌⊖◌
 
   -- a row and ρ·x^c times a row, made one by an operation
   unfoldable pub with_multiple : (K → K → K) → (ℕ → K) → K → ℕ → (ℕ → K) → ℕ → K

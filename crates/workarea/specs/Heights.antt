@@ -1,6 +1,6 @@
 -- How many powers of x the upper parts of the polynomials need: kept beside the area, so that no work is done on zeros.
 -- Assumes nothing.
-use Rattle.std.specs.Prelude.{◌≡◌, List, ℕ, ◌+◌, ◌*◌, ◌<◌, ◌≤◌, leb, length, get_or, set, true, false}
+use Rattle.std.specs.Prelude.{◌≡◌, List, ℕ, ◌+◌, ◌*◌, ◌<◌, ◌≤◌, min, max, length, get_or, set}
 use Rattle.symbols.specs.Sizes.{most_polynomials}
 use Rattle.symbols.specs.Rule.{symbols}
 use Rattle.published.specs.Start.{Polynomials, width}
@@ -26,16 +26,9 @@ pub record AtStart (q : ℕ) (heights : List ℕ) : Type 0 where
   pub g-none : (p : ℕ) → p < q → get_or heights p 0 ≡ 0
   pub f-one : (p : ℕ) → q ≤ p → p < 2 * q → get_or heights p 0 ≡ 1
 
--- the smaller and the larger of two numbers
-unfoldable pub smaller : ℕ → ℕ → ℕ
-smaller a b = elim (leb a b) [ true ↦ a | false ↦ b ]
-
-unfoldable pub larger : ℕ → ℕ → ℕ
-larger a b = elim (leb a b) [ true ↦ b | false ↦ a ]
-
 -- the height of a sum of two upper parts with these heights: what stands past the width is not held
 unfoldable pub height_of_sum : ℕ → ℕ → ℕ → ℕ
-height_of_sum q a b = smaller (width q) (larger a b)
+height_of_sum q a b = min (width q) (max a b)
 
 -- the heights after polynomial f has become f - ρ·x^c·g
 unfoldable pub heights_added : ℕ → ℕ → ℕ → ℕ → List ℕ → List ℕ

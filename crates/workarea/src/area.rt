@@ -3,18 +3,13 @@ ghost use Rattle.std.specs.Prelude.{◌≡◌, ◌+◌, ◌*◌, ◌<◌, length
 ghost use Rattle.symbols.specs.Rule.{Known, Sym};
 ghost use Rattle.published.specs.Start.{width};
 ghost use Rattle.published.specs.Picture.{area_size};
-ghost use Rattle.workarea.specs.Heights.{smaller as smaller_of};
 ghost use Rattle.workarea.specs.Area.{Area, TwoRows, Reach, row_place, Turns, Multiplies, symbols_made, row_made, row_exchanged};
 
 use crate::rows;
+use crate::rows::Sign;
 use symbols::MOST_SYMBOLS;
 
-// What a change of a row does with a multiple of another one.
-pub const PLUS: bool = false;
-
-pub const MINUS: bool = true;
-
-// A row of the area.
+// A row of the area; also a part of a polynomial, by the first of its q rows.
 #[derive(Clone, Copy)]
 pub struct Row {
     pub polynomial: usize,
@@ -22,6 +17,7 @@ pub struct Row {
 }
 
 // How many powers of x a row has.
+#[tactic(auto, using(crate::proofs::Sizes::sizes), unfolding(published::specs::Start::width))]
 pub fn width_of(q: usize) -> usize
     requires { Known q }
     ensures { result ≡ width q }
@@ -30,6 +26,7 @@ pub fn width_of(q: usize) -> usize
 }
 
 // How many bytes the area needs.
+#[tactic(auto, using(crate::proofs::Sizes::sizes), unfolding(published::specs::Picture::area_size))]
 pub fn area_size(q: usize) -> usize
     requires { Known q }
     ensures { result ≡ area_size q }
@@ -38,19 +35,13 @@ pub fn area_size(q: usize) -> usize
 }
 
 // Where row r of polynomial p starts.
+#[tactic(auto, using(crate::proofs::Sizes::sizes, crate::proofs::Sizes::row_small), unfolding(crate::specs::Area::row_place))]
 pub fn row_place(q: usize, p: usize, r: usize) -> usize
     requires known { Known q }
     requires p_bound { (p < 2 * q) × (r < 2 * q) }
     ensures { result ≡ row_place q p r }
 {
     (p * (2 * q) + r) * width_of(q)
-}
-
-// The smaller of two numbers.
-pub fn smaller(a: usize, b: usize) -> usize
-    ensures { result ≡ smaller_of a b }
-{
-    if a <= b { a } else { b }
 }
 
 // The bytes of two rows that take part in a sum or a difference: where they start, and how many there are.
@@ -62,6 +53,7 @@ struct Run {
 }
 
 // Those of `to` that x^shift times the first `height` symbols of `from` reach: none where the shift is past the width.
+#[tactic(auto, using(crate::proofs::Sizes::row_small))]
 fn run_of(q: usize, to: Row, from: Row, height: usize, shift: usize) -> Run
     requires { Known q × TwoRows q to from }
     ensures { Reach q to from height shift result.to result.from result.count }
@@ -76,7 +68,7 @@ fn run_of(q: usize, to: Row, from: Row, height: usize, shift: usize) -> Run
             count: 0,
         };
     }
-    let count = smaller(height, width - shift);
+    let count = height.min(width - shift);
     Run {
         to: target + shift,
         from: source,
@@ -85,11 +77,12 @@ fn run_of(q: usize, to: Row, from: Row, height: usize, shift: usize) -> Run
 }
 
 // Adds to a row what `products` is the table row of, times x^shift, times the first `height` symbols of another row; or subtracts
-// it where `minus` is true.
+// it, as the sign says.
+#[tactic(auto, using(crate::proofs::Cells::row_fits, crate::proofs::Cells::rows_differ))]
 pub fn change_row(
     work: &mut [u8],
     q: usize,
-    minus: bool,
+    sign: Sign,
     to: Row,
     from: Row,
     height: usize,
@@ -99,13 +92,14 @@ pub fn change_row(
     requires area { Area q (length work.old) }
     requires two_rows { TwoRows q to from }
     ensures { (ρ : Sym q) → Multiplies q products ρ → Turns q work.old work.new
-        (row_made q (symbols_made q minus) to.polynomial to.row from.polynomial from.row height shift ρ) }
+        (row_made q (symbols_made q sign) to.polynomial to.row from.polynomial from.row height shift ρ) }
 {
     let run = run_of(q, to, from, height, shift);
-    rows::change_bytes(work, q, minus, run.to, run.from, run.count, products);
+    rows::change_bytes(work, q, sign, run.to, run.from, run.count, products);
 }
 
 // Row r of polynomial f becomes x^shift times itself minus the multiple of that of g, and row r of g becomes that of f.
+#[tactic(auto, using(crate::proofs::Cells::row_fits, crate::proofs::Cells::rows_differ))]
 pub fn exchange_row(
     work: &mut [u8],
     q: usize,

@@ -4,7 +4,5 @@
 mod area;
 mod rows;
 
-pub use area::{
-    MINUS, PLUS, Row, area_size, change_row, exchange_row, row_place, smaller, width_of,
-};
-pub use rows::clear;
+pub use area::{Row, area_size, change_row, exchange_row, row_place, width_of};
+pub use rows::{Sign, clear};

@@ -1,5 +1,6 @@
-// Runs of bytes in the work area: the loops that clear bytes and that add a multiple of one row to another or subtract it, with
-// no branch inside and no call but the sum or the difference, which are one instruction each.
+// Runs of bytes in the work area: bytes cleared, and the loops that add a multiple of one row to another, subtract it or exchange
+// two rows, with no branch inside and no call but the sum or the difference, which are one instruction each. They go by an index,
+// since the two rows are places of one slice: an iterator would borrow it twice.
 ghost use Rattle.std.specs.Prelude.{◌≡◌, ◌++◌, ◌⊎◌, ◌+◌, ◌-◌, ◌≤◌, length, drop, replicate};
 ghost use Rattle.workarea.specs.Area.{numbers_made, made, exchanged_above, exchanged_below};
 
@@ -10,19 +11,23 @@ pub fn clear(work: &mut [u8], count: usize)
     requires { count ≤ length work.old }
     ensures { work.new ≡ replicate count 0 ++ drop count work.old }
 {
-    for i in 0..count {
-        work[i] = 0;
-    }
+    work[..count].fill(0);
+}
+
+// What a change of a row does with a multiple of another one.
+#[derive(Clone, Copy)]
+pub enum Sign {
+    Plus,
+    Minus,
 }
 
 // The sum of two symbols, or their difference.
-fn sum_or_difference(q: usize, minus: bool, a: u8, b: u8) -> u8
-    ensures { result ≡ numbers_made q minus a b }
+fn sum_or_difference(q: usize, sign: Sign, a: u8, b: u8) -> u8
+    ensures { result ≡ numbers_made q sign a b }
 {
-    if minus {
-        symbols::difference(q, a, b)
-    } else {
-        symbols::sum(q, a, b)
+    match sign {
+        Sign::Plus => symbols::sum(q, a, b),
+        Sign::Minus => symbols::difference(q, a, b),
     }
 }
 
@@ -30,19 +35,19 @@ fn sum_or_difference(q: usize, minus: bool, a: u8, b: u8) -> u8
 pub fn change_bytes(
     work: &mut [u8],
     q: usize,
-    minus: bool,
+    sign: Sign,
     to: usize,
     from: usize,
     count: usize,
     products: [u8; MOST_SYMBOLS],
 )
-    requires count_in_bounds { (to + count ≤ length work.old) × (from + count ≤ length work.old) }
-    requires fact { (to + count ≤ from) ⊎ (from + count ≤ to) }
-    ensures { work.new ≡ made (numbers_made q minus) work.old to from count products }
+    requires in_area { (to + count ≤ length work.old) × (from + count ≤ length work.old) }
+    requires apart { (to + count ≤ from) ⊎ (from + count ≤ to) }
+    ensures { work.new ≡ made (numbers_made q sign) work.old to from count products }
 {
     for i in 0..count {
         let factor = (work[from + i] % SYMBOL_PLACES) as usize;
-        work[to + i] = sum_or_difference(q, minus, work[to + i], products[factor]);
+        work[to + i] = sum_or_difference(q, sign, work[to + i], products[factor]);
     }
 }
 
@@ -57,14 +62,12 @@ pub fn exchange_above(
     width: usize,
     products: [u8; MOST_SYMBOLS],
 )
-    requires width_in_bounds { (f + width ≤ length work.old) × (g + width ≤ length work.old) }
-    requires fact { (f + width ≤ g) ⊎ (g + width ≤ f) }
-    requires shift_le_width { shift ≤ width }
+    requires in_area { (f + width ≤ length work.old) × (g + width ≤ length work.old) }
+    requires apart { (f + width ≤ g) ⊎ (g + width ≤ f) }
+    requires shift_within { shift ≤ width }
     ensures { work.new ≡ exchanged_above q work.old f g shift products shift (width - shift) }
 {
-    let mut i = width;
-    while shift < i {
-        i -= 1;
+    for i in (shift..width).rev() {
         let old = work[f + i];
         let factor = (work[g + i] % SYMBOL_PLACES) as usize;
         work[f + i] = symbols::difference(q, work[f + (i - shift)], products[factor]);
@@ -81,8 +84,8 @@ pub fn exchange_below(
     count: usize,
     products: [u8; MOST_SYMBOLS],
 )
-    requires count_in_bounds { (f + count ≤ length work.old) × (g + count ≤ length work.old) }
-    requires fact { (f + count ≤ g) ⊎ (g + count ≤ f) }
+    requires in_area { (f + count ≤ length work.old) × (g + count ≤ length work.old) }
+    requires apart { (f + count ≤ g) ⊎ (g + count ≤ f) }
     ensures { work.new ≡ exchanged_below q work.old f g products count }
 {
     for i in 0..count {

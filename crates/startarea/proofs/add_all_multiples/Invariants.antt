@@ -2,8 +2,7 @@
 -- Assumes nothing.
 use mathlib.Core.Path.{◌≡◌}
 use mathlib.Core.List.{List, ◌++◌}
-use Prim.Native.Nat.{ℕ, ◌-◌, ◌≤◌}
-use lib.ListN.{length}
+use Prim.Native.Nat.{ℕ}
 use Rattle.symbols.specs.Rule.{Sym}
 use Rattle.workarea.specs.Area.{shown}
 use Rattle.startarea.specs.StartArea.{begun}
@@ -11,8 +10,4 @@ use Rattle.startarea.proofs.add_all_multiples.Given as goal
 
 abbrev pub invariant-loop-i : goal.invariant-loop-i
 invariant-loop-i l =
-    (1 ≤ l.i) × (l.i ≤ l.q) × (length l.work ≡ length l.initial.work)
-    × ((H : List (List (Sym l.q))) (rest : List ℕ) → l.initial.work ≡ shown l.q (begun l.q H 1) ++ rest → l.work ≡ shown l.q (begun l.q H l.i) ++ rest)
-
-abbrev pub decreases-loop-i : goal.decreases-loop-i
-decreases-loop-i l = l.q - l.i
+    (H : List (List (Sym l.q))) (rest : List ℕ) → l.initial.work ≡ shown l.q (begun l.q H 1) ++ rest → l.work ≡ shown l.q (begun l.q H l.i) ++ rest

@@ -1,12 +1,8 @@
 -- Each turn adds the part of one point more.
 -- Assumes nothing.
-use Prim.Native.Nat.{◌-◌, ◌≤◌}
 use Rattle.symbols.specs.Tables.{Holds}
 use Rattle.startarea.specs.StartArea.{column_sum}
 use Rattle.startarea.proofs.column_sums.Given as goal
 
 abbrev pub invariant-loop-b : goal.invariant-loop-b
-invariant-loop-b l = (l.b ≤ l.q) × Holds l.q l.sums l.q (column_sum l.q l.row l.a l.b)
-
-abbrev pub decreases-loop-b : goal.decreases-loop-b
-decreases-loop-b l = l.q - l.b
+invariant-loop-b l = Holds l.q l.sums l.q (column_sum l.q l.row l.a l.b)

@@ -6,7 +6,6 @@ use Rattle.workarea.proofs.Sizes.{sizes}
 use Rattle.startarea.proofs.StartRows.{minus-none, minus-more}
 use Rattle.startarea.proofs.StartFirsts.{minus-one-small}
 use Rattle.startarea.proofs.StartColumns.{x-values, column-turns}
-use borrow.Author.Rules.{rules}
 use Rattle.startarea.proofs.subtract_column.Goals as goal
 
 pub add_part-values-requires-clause-n_nonzero : goal.add_part-values-requires-clause-n_nonzero
@@ -15,24 +14,19 @@ add_part-values-requires-clause-n_nonzero c = let known = c.requires.area.known 
     (omega (arith, z.square-some), z.square-few, omega (arith, z.square-some), rw c.difference-minus_one.ensures (minus-one-small _ known))
 
 pub loop-j-init : goal.loop-j-init
-loop-j-init c =
-    (search rules, search rules, turns_same _ (λ S p r i hp hr hi. minus-none _ c.requires.area.known _ _ _ S p r i) (turns-none _))
+loop-j-init c = turns_same _ (λ S p r i hp hr hi. minus-none _ c.requires.area.known _ _ _ S p r i) (turns-none _)
 
 pub subtract_values-requires : goal.subtract_values-requires
 subtract_values-requires c =
-    let j = c.loop-j-test.true in
-    let fits = row_fits c.args.q (c.args.q + c.loop-j.j) c.requires.area (omega (arith, c.requires.area.some)) (omega arith) in
-    (rw c.row_place-to.ensures (omega (arith, fits, c.requires.area.square, c.loop-j.invariant.1)), (sizes _ c.requires.area.known).square-few)
+    let fits = row_fits c.args.q (c.args.q + c.loop-j.j) c.requires.area (omega (arith, c.requires.area.some)) (omega (arith, c.loop-j-test.true)) in
+    omega (arith, fits, sizes _ c.requires.area.known)
 
 pub loop-j-preserved : goal.loop-j-preserved
-loop-j-preserved c = (
-  search rules,
-  search rules,
-  let known = c.requires.area.known in
-      let j = c.loop-j-test.true in
-      let values = x-values _ known _ _ (λ F held. rw c.difference-minus_one.ensures at (c.add_part-values.ensures _ F c.products_in-powers.ensures held)) in
-      turns_same _ (λ S p r i hp hr hi. minus-more _ known _ _ _ S _ p r i)
-      (turns-both _ c.loop-j.invariant.2
-      (column-turns _ known _ _ _ _ _ _ _ _ _ _ _ values (omega (arith, c.requires.area.some)) (omega arith) (c.column_sums-sums.ensures.at _ j)
-      c.row_place-to.ensures c.products_in-products.ensures c.subtract_values.ensures)),
-)
+loop-j-preserved c =
+    let known = c.requires.area.known in
+    let j = c.loop-j-test.true in
+    let values = x-values _ known _ _ (λ F held. rw c.difference-minus_one.ensures at (c.add_part-values.ensures _ F c.products_in-powers.ensures held)) in
+    turns_same _ (λ S p r i hp hr hi. minus-more _ known _ _ _ S _ p r i)
+    (turns-both _ c.loop-j.invariant
+    (column-turns _ known _ _ _ _ _ _ _ _ _ _ _ values (omega (arith, c.requires.area.some)) (omega arith) (c.column_sums-sums.ensures.at _ j)
+    c.row_place-to.ensures c.products_in-products.ensures c.subtract_values.ensures))

@@ -64,7 +64,7 @@ put_step_line-next-requires-clause-area c = let a = c.args in
     let begun = c.requires.started in
     let weight = weight_is a.q c.loop-t.t c.step_count-count.ensures in
     let after = next-state a.q a.u begun.row c.loop-t.t _ (step-due (goal.at.put_step_line-next-requires-clause-area c).After-take_step-vote) weight (c.loop-t.invariant.5 begun.row begun.shows)
-    c.take_step-vote.ensures.by_index in
+    c.take_step-vote.ensures.stepped in
     area_of c.requires.known.0 (omega (arith, c.requires.known.1, c.loop-t.invariant.2, c.take_step-vote.auto.work))
 
 pub put_step_line-next-requires-clause-s_bound : goal.put_step_line-next-requires-clause-s_bound
@@ -72,7 +72,7 @@ put_step_line-next-requires-clause-s_bound c = let a = c.args in
     let begun = c.requires.started in
     let weight = weight_is a.q c.loop-t.t c.step_count-count.ensures in
     let after = next-state a.q a.u begun.row c.loop-t.t _ (step-due (goal.at.put_step_line-next-requires-clause-s_bound c).After-take_step-vote) weight (c.loop-t.invariant.5 begun.row begun.shows)
-    c.take_step-vote.ensures.by_index in
+    c.take_step-vote.ensures.stepped in
     (omega (arith, weight), line-fits (goal.at.put_step_line-next-requires-clause-s_bound c).At-loop-t (step-due (goal.at.put_step_line-next-requires-clause-s_bound c).After-take_step-vote))
 
 pub put_step_line-next-requires-clause-shown : goal.put_step_line-next-requires-clause-shown
@@ -80,7 +80,7 @@ put_step_line-next-requires-clause-shown c = let a = c.args in
     let begun = c.requires.started in
     let weight = weight_is a.q c.loop-t.t c.step_count-count.ensures in
     let after = next-state a.q a.u begun.row c.loop-t.t _ (step-due (goal.at.put_step_line-next-requires-clause-shown c).After-take_step-vote) weight (c.loop-t.invariant.5 begun.row begun.shows)
-    c.take_step-vote.ensures.by_index in
+    c.take_step-vote.ensures.stepped in
     record { state = _; shows = after.0; voted = after.1 }
 
 pub loop-t-preserved : goal.loop-t-preserved
@@ -89,9 +89,9 @@ loop-t-preserved c =
       omega (arith, c.loop-t-test.true),
       c.put_step_line-next.auto.out ∙ c.loop-t.invariant.1,
       c.take_step-vote.auto.work ∙ c.loop-t.invariant.2,
-      c.take_step-vote.ensures.heights_2,
+      c.take_step-vote.ensures.heights_left,
       c.take_step-vote.auto.heights ∙ c.loop-t.invariant.4,
       λ row shows. reached-more a.q a.u row c.loop-t.t _ (step-due (goal.at.loop-t-preserved c).After-take_step-vote)
           (weight_is a.q c.loop-t.t c.step_count-count.ensures) (lines_fit (goal.at.loop-t-preserved c).At-loop-t row) (c.loop-t.invariant.5 row shows)
-          c.take_step-vote.ensures.by_index c.put_step_line-next.ensures,
+          c.take_step-vote.ensures.stepped c.put_step_line-next.ensures,
     )

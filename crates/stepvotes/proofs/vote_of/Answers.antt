@@ -7,10 +7,10 @@ use Rattle.published.specs.Pairing.{score}
 use Rattle.stepvotes.proofs.VoteLaws.{vote-yes, vote-no}
 use Rattle.stepvotes.proofs.vote_of.Goals as goal
 
-pub returns-then-voted-clause-by_index_2 : goal.returns-then-voted-clause-by_index_2
-returns-then-voted-clause-by_index_2 c = λ P u s numbers v.
-    vote-yes _ u s _ c.requires.known (tab _ P) (v ∙ c.if-voted.true) c.best_of.ensures.upper_bound
-    (c.best_of.ensures.by_index (score (symbols _) _ (tab _ P)) (c.scores_of-scores.ensures P numbers))
+pub returns-then-voted-clause-vote : goal.returns-then-voted-clause-vote
+returns-then-voted-clause-vote c = λ P u s numbers v.
+    vote-yes _ u s _ c.requires.known (tab _ P) (v ∙ c.if-voted.true) c.best_of.ensures.symbol
+    (c.best_of.ensures.best (score (symbols _) _ (tab _ P)) (c.scores_of-scores.ensures P numbers))
 
-pub returns-clause-by_index_2 : goal.returns-clause-by_index_2
-returns-clause-by_index_2 c = λ P u s numbers v. vote-no _ u s c.requires.known (tab _ P) (v ∙ c.if-voted.false)
+pub returns-clause-vote : goal.returns-clause-vote
+returns-clause-vote c = λ P u s numbers v. vote-no _ u s c.requires.known (tab _ P) (v ∙ c.if-voted.false)

@@ -2,7 +2,6 @@
 use native.Mathlib.Omega.{arith}
 use Rattle.workarea.proofs.Cells.{turns-none, turns_same, turns-both}
 use Rattle.substitution.proofs.ProductCells.{product-none, product-more, product-nothing}
-use borrow.Author.Rules.{rules}
 use Rattle.substitution.proofs.add_product.Goals as goal
 
 pub returns-then-height-eq0 : goal.returns-then-height-eq0
@@ -11,12 +10,9 @@ returns-then-height-eq0 c =
 
 pub loop-j-init : goal.loop-j-init
 loop-j-init c =
-    (search rules, search rules, λ ρ m. turns_same _ (λ S p r i hp hr hi. product-none _ c.requires.area.known c.args.to c.args.from _ _ _ ρ S p r i) (turns-none _))
+    λ ρ m. turns_same _ (λ S p r i hp hr hi. product-none _ c.requires.area.known c.args.to c.args.from _ _ _ ρ S p r i) (turns-none _)
 
 pub loop-j-preserved : goal.loop-j-preserved
-loop-j-preserved c = (
-  search rules,
-  search rules,
-  λ ρ m. turns_same _ (λ S p r i hp hr hi. product-more _ c.requires.area.known c.args.to c.args.from _ _ _ ρ c.requires.apart S _ c.loop-j-test.true p r i)
-      (turns-both _ (c.loop-j.invariant.2 ρ m) (c.add_product_row.ensures ρ m)),
-)
+loop-j-preserved c =
+    λ ρ m. turns_same _ (λ S p r i hp hr hi. product-more _ c.requires.area.known c.args.to c.args.from _ _ _ ρ c.requires.apart S _ c.loop-j-test.true p r i)
+    (turns-both _ (c.loop-j.invariant ρ m) (c.add_product_row.ensures ρ m))

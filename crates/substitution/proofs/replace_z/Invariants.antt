@@ -1,8 +1,5 @@
 -- Each turn replaces z in one polynomial more.
 -- Assumes nothing.
-use mathlib.Core.Path.{◌≡◌}
-use Prim.Native.Nat.{◌-◌, ◌*◌, ◌≤◌}
-use lib.ListN.{length}
 use Rattle.symbols.specs.Rule.{Sym}
 use Rattle.workarea.specs.Area.{Turns, Multiplies}
 use Rattle.substitution.specs.Products.{replaced_z}
@@ -10,8 +7,4 @@ use Rattle.substitution.proofs.replace_z.Given as goal
 
 abbrev pub invariant-loop-p : goal.invariant-loop-p
 invariant-loop-p l =
-    (l.p ≤ 2 * l.q) × (length l.work ≡ length l.initial.work)
-    × ((ρ : Sym l.q) → Multiplies l.q l.products ρ → Turns l.q l.initial.work l.work (replaced_z l.q l.heights l.powers.x l.powers.y ρ l.p))
-
-abbrev pub decreases-loop-p : goal.decreases-loop-p
-decreases-loop-p l = 2 * l.q - l.p
+    (ρ : Sym l.q) → Multiplies l.q l.products ρ → Turns l.q l.initial.work l.work (replaced_z l.q l.heights l.powers.x l.powers.y ρ l.p)

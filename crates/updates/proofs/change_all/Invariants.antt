@@ -1,7 +1,7 @@
 -- Each turn does one pair more.
 -- Assumes nothing.
 use mathlib.Core.Path.{◌≡◌}
-use Prim.Native.Nat.{ℕ, ◌-◌, ◌≤◌, ◌<◌}
+use Prim.Native.Nat.{ℕ, ◌<◌}
 use lib.ListN.{length}
 use Rattle.lists.specs.Tables.{tab}
 use Rattle.symbols.specs.Rule.{symbols, Sym, number}
@@ -15,10 +15,7 @@ use Rattle.updates.proofs.change_all.Given as goal
 
 abbrev pub invariant-loop-i : goal.invariant-loop-i
 invariant-loop-i l =
-    (l.i ≤ l.q) × (length l.work ≡ length l.initial.work) × (length l.heights ≡ length l.initial.heights) × Heights l.q l.heights
+    (length l.work ≡ length l.initial.work) × Heights l.q l.heights
     × ((S : Polynomials (symbols l.q) l.q) (ω : Sym l.q) (P : ℕ → Pairing (symbols l.q) l.q) → l.vote ≡ number l.q ω
-    → ((j : ℕ) → j < l.q → NumbersOf l.q (pair_at l.pairs j) (P j)) → WithinHeights l.q l.initial.heights (cells_of l.q S)
+    → ((j : ℕ) → j < l.q → NumbersOf l.q (pair_at l.fn.pairs j) (P j)) → WithinHeights l.q l.initial.heights (cells_of l.q S)
     → BecomesBelow l.q l.initial.work l.work S (updated (symbols l.q) l.q ω (tab l.q P) S l.i) l.heights)
-
-abbrev pub decreases-loop-i : goal.decreases-loop-i
-decreases-loop-i l = l.q - l.i

@@ -6,12 +6,11 @@ use Rattle.updates.proofs.exchange_polynomials.Goals as goal
 
 pub loop-r-init : goal.loop-r-init
 loop-r-init c =
-    (search rules, search rules, λ ρ m. turns_same _ (λ S p r i hp hr hi. exchanged-none _ c.requires.area.known _ _ _ c.requires.f_bound.2 ρ S p r i) (turns-none _))
+    (search rules, λ ρ m. turns_same _ (λ S p r i hp hr hi. exchanged-none _ c.requires.area.known _ _ _ c.requires.f_bound.2 ρ S p r i) (turns-none _))
 
 pub loop-r-preserved : goal.loop-r-preserved
 loop-r-preserved c = (
   search rules,
-  search rules,
   λ ρ m. turns_same _ (λ S p r i hp hr hi. exchanged-more _ c.requires.area.known _ _ _ c.requires.f_bound.2 ρ S _ p r i)
-      (turns-both _ (c.loop-r.invariant.2 ρ m) (c.exchange_row.ensures ρ m)),
+      (turns-both _ (c.loop-r.invariant.1 ρ m) (c.exchange_row.ensures ρ m)),
 )

@@ -1,7 +1,6 @@
 -- Each turn exchanges one row more.
 -- Assumes nothing.
 use mathlib.Core.Path.{◌≡◌}
-use Prim.Native.Nat.{◌-◌, ◌*◌, ◌≤◌}
 use lib.ListN.{length}
 use Rattle.symbols.specs.Rule.{Sym}
 use Rattle.workarea.specs.Area.{Turns, Multiplies}
@@ -10,8 +9,5 @@ use Rattle.updates.proofs.exchange_polynomials.Given as goal
 
 abbrev pub invariant-loop-r : goal.invariant-loop-r
 invariant-loop-r l =
-    (l.r ≤ 2 * l.q) × (length l.work ≡ length l.initial.work)
+    (length l.work ≡ length l.initial.work)
     × ((ρ : Sym l.q) → Multiplies l.q l.products ρ → Turns l.q l.initial.work l.work (polynomials_exchanged l.q l.f l.g l.shift ρ l.r))
-
-abbrev pub decreases-loop-r : goal.decreases-loop-r
-decreases-loop-r l = 2 * l.q - l.r

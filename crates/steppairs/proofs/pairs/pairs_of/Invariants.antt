@@ -1,7 +1,7 @@
 -- Each turn finds the numbers of one pair more.
 -- Assumes nothing.
 use mathlib.Core.Path.{◌≡◌}
-use Prim.Native.Nat.{ℕ, ◌-◌, ◌≤◌, ◌<◌}
+use Prim.Native.Nat.{ℕ, ◌<◌}
 use lib.ListN.{length}
 use Rattle.symbols.specs.Sizes.{most_q}
 use Rattle.symbols.specs.Rule.{symbols}
@@ -14,9 +14,6 @@ use Rattle.steppairs.proofs.pairs.pairs_of.Given as goal
 
 abbrev pub invariant-loop-i : goal.invariant-loop-i
 invariant-loop-i l =
-    (l.i ≤ l.q) × (length l.pairs ≡ most_q) × ((j : ℕ) → j < l.i → Held l.q (pair_at l.pairs j))
+    (length l.pairs ≡ most_q) × ((j : ℕ) → j < l.i → Held l.q (pair_at l.pairs j))
     × ((S : Polynomials (symbols l.q) l.q) (u : ℕ) → Narrow l.q (cells_of l.q S) → WithinHeights l.q l.heights (cells_of l.q S) → Starts l.q l.work (cells_of l.q S) → is_voted l.q u l.s ≡ l.voted
     → (j : ℕ) → j < l.i → NumbersOf l.q (pair_at l.pairs j) (pairing (symbols l.q) l.q u l.s S j))
-
-abbrev pub decreases-loop-i : goal.decreases-loop-i
-decreases-loop-i l = l.q - l.i

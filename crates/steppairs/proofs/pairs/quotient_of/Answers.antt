@@ -1,9 +1,8 @@
 -- The division is exact; the numbers are small.
 -- Assumes nothing.
-use Prim.Native.Nat.{◌+◌, ◌*◌, ◌%◌}
 use native.Mathlib.Omega.{arith}
 use Rattle.symbols.proofs.Bytes.{known-other}
-use Rattle.pair.proofs.Signed.{Divided, divided, difference-fits, k-value}
+use Rattle.pair.proofs.Signed.{Divided, divided, k-value}
 use Rattle.steppairs.proofs.pairs.quotient_of.Goals as goal
 use Rattle.steppairs.proofs.pairs.quotient_of.Goals.{Start}
 
@@ -13,17 +12,6 @@ small c = divided _ _ c.requires.known c.requires.total_le_most_degree
 
 pub overflow_add-low : goal.overflow_add-low
 overflow_add-low c = omega (arith, small (goal.at.overflow_add-low c).Start)
-
-pub overflow_mul-low : goal.overflow_mul-low
-overflow_mul-low c = rw c.remainder.ensures (omega (arith, small (goal.at.overflow_mul-low c).Start))
-
-pub overflow_cast-difference-2 : goal.overflow_cast-difference-2
-overflow_cast-difference-2 c = rw c.remainder.ensures (record { sfits = omega (arith, small (goal.at.overflow_cast-difference-2 c).Start) })
-
-pub overflow_sub-difference : goal.overflow_sub-difference
-overflow_sub-difference c =
-    let d = small (goal.at.overflow_sub-difference c).Start in
-    rw c.remainder.ensures (difference-fits c.args.total ((c.args.q + 1) * (c.args.total % c.args.q)) (omega arith) (omega arith))
 
 pub returns-then-q-eq4 : goal.returns-then-q-eq4
 returns-then-q-eq4 c =

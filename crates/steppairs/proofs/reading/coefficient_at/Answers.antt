@@ -5,12 +5,7 @@ use native.Mathlib.Omega.{arith}
 use Rattle.symbols.specs.Rule.{number}
 use Rattle.symbols.proofs.FieldLaws.{laws-of}
 use Rattle.workarea.proofs.Cells.{row_fits, shown_read}
-use Rattle.workarea.proofs.Sizes.{row_small}
 use Rattle.steppairs.proofs.reading.coefficient_at.Goals as goal
-
-pub overflow_add-result : goal.overflow_add-result
-overflow_add-result c =
-    rw c.row_place.ensures (omega (arith, row_small _ _ _ c.requires.area.known c.requires.p_bound.0 c.requires.p_bound.1, c.width_of.ensures))
 
 pub bounds-work-row_place : goal.bounds-work-row_place
 bounds-work-row_place c =

@@ -23,12 +23,12 @@ pub substitute-requires-clause-area : goal.substitute-requires-clause-area
 substitute-requires-clause-area c = area_of c.requires.known.0 c.requires.known.1
 
 pub substitute-requires-clause-s_le_most_degree : goal.substitute-requires-clause-s_le_most_degree
-substitute-requires-clause-s_le_most_degree c = (omega (arith, c.start_weight.ensures, (sizes _ c.requires.known.0).start), λ ne. vote-zero _ _ _ _ _ c.is_voted-voted.ensures c.vote_of-vote.ensures.value ne, c.requires.known.3)
+substitute-requires-clause-s_le_most_degree c = (omega (arith, c.start_weight.ensures, (sizes _ c.requires.known.0).start), λ ne. vote-zero _ _ _ _ _ c.is_voted-voted.ensures c.vote_of-vote.ensures.unvoted ne, c.requires.known.3)
 
 pub change_all-requires-clause-area : goal.change_all-requires-clause-area
 change_all-requires-clause-area c = still (area_of c.requires.known.0 c.requires.known.1) (omega arith)
 
-pub returns-clause-by_index : goal.returns-clause-by_index
-returns-clause-by_index c = λ row rest e below.
+pub returns-clause-stepped : goal.returns-clause-stepped
+returns-clause-stepped c = λ row rest e below.
     assembled _ _ row _ c.requires.known.0 rest _ _ c.pairs_of-pairs.result _ _ _ _ _ _ (ap (λ (n : ℕ). n - c.args.done) c.start_weight.ensures) c.is_voted-voted.ensures e below
-    c.pairs_of-pairs.ensures.numbers_of c.vote_of-vote.ensures.by_index_2 c.substitute.ensures c.change_all.ensures.becomes_below
+    c.pairs_of-pairs.ensures.numbers_of c.vote_of-vote.ensures.vote c.substitute.ensures c.change_all.ensures.becomes_below
