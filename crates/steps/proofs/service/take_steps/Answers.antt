@@ -1,23 +1,41 @@
 -- `steps::service::take_steps` meets its contract: the goals that the check leaves open. Assumes nothing.
-use mathlib.Core.Path.{◌≡◌, refl, sym, ap, ◌∙◌}
-use Prim.Native.Nat.{◌-◌, ◌<◌}
+use mathlib.Core.Path.{◌≡◌, refl, sym, ap, subst, ◌∙◌}
+use Prim.Native.Nat.{ℕ, ◌-◌, ◌<◌, ◌≤◌}
 use native.Mathlib.Nat.{sub-zero}
 use native.Mathlib.Omega.{arith}
 use borrow.Author.Rules.{rules}
+use lib.ListN.{length}
+use mathlib.Core.List.{List, ◌++◌}
+use Rattle.symbols.specs.Tables.{HasProducts}
+use Rattle.curve.specs.Codes.{Code, dimension}
+use Rattle.published.specs.Picture.{area_size}
 use Rattle.curve.proofs.CodeLaws.{code_below}
 use Rattle.published.specs.Start.{step_count}
+use Rattle.steps.specs.Stop.{picture_after, votes_after}
 use Rattle.steps.specs.Votes.{votes_below, noted}
 use Rattle.workarea.proofs.HeightLaws.{start-many}
 use Rattle.steps.proofs.StartHeights.{below-start}
 use Rattle.steps.proofs.VotePlaces.{below_all, below-le, code-stepped, noted-next}
 use Rattle.steps.proofs.service.take_steps.Goals as goal
+use Rattle.steps.proofs.service.take_steps.Goals.{After-code}
+
+-- what is asked for, by the numbers of the code that are read
+abbrev Asked : (steps : ℕ) (table work votes : List ℕ) → Code → Type 0
+Asked steps table work votes code =
+    (steps ≤ step_count code.q) × HasProducts code.q table × (area_size code.q ≤ length work) × (dimension code.q code.u ≤ length votes)
+
+asked : (c : After-code) → (c.args.steps ≤ step_count c.code.inside.q) × HasProducts c.code.inside.q c.args.table.now
+    × (area_size c.code.inside.q ≤ length c.args.work.now) × (dimension c.code.inside.q c.code.inside.u ≤ length c.args.votes.now)
+asked c =
+    subst (Asked c.args.steps c.args.table.now c.args.work.now c.args.votes.now) (sym c.code.view_is)
+    (c.requires.steps.0, c.requires.steps.1, c.requires.room.0, c.requires.room.1)
 
 pub loop-done-init : goal.loop-done-init
 loop-done-init c =
-    let known = c.requires.valid.0.known in (
+    let known = c.code.invariant.known in (
       refl,
       refl,
-      c.requires.valid.0.k-is ∙ sym (below_all _ _ _ (code-stepped _ _ known (code_below _ _ c.requires.valid.0.accepted))) ∙ ap (votes_below c.args.code.q c.args.code.u) (sym (sub-zero _)),
+      c.code.invariant.k-is ∙ sym (below_all _ _ _ (code-stepped _ _ known (code_below _ _ c.code.invariant.accepted))) ∙ ap (votes_below c.code.inside.q c.code.inside.u) (sym (sub-zero _)),
       start-many _ _ known c.start_heights-heights.ensures,
       c.start_heights-heights.ensures.long,
       λ row rest rest' e e'. (e, e', below-start _ known _ c.start_heights-heights.ensures _ row),
@@ -26,10 +44,10 @@ loop-done-init c =
 pub note_vote-left-requires : goal.note_vote-left-requires
 note_vote-left-requires c =
     let turn = c.loop-done in (
-      c.requires.valid.0.known,
-      omega (arith, c.requires.valid.1, c.loop-done-test.true),
+      c.code.invariant.known,
+      omega (arith, (asked (goal.at.note_vote-left-requires c).After-code).0, c.loop-done-test.true),
       turn.invariant.2,
-      omega (arith, turn.invariant.2, turn.invariant.1, c.requires.q_in_bounds.1, below-le c.args.code.q c.args.code.u (step_count c.args.code.q - turn.done)),
+      omega (arith, turn.invariant.2, turn.invariant.1, (asked (goal.at.note_vote-left-requires c).After-code).3, below-le c.code.inside.q c.code.inside.u (step_count c.code.inside.q - turn.done)),
     )
 
 pub loop-done-preserved : goal.loop-done-preserved
@@ -37,7 +55,7 @@ loop-done-preserved c =
     let turn = c.loop-done in
     let stepping = c.take_step-vote.ensures in
     let noting = c.note_vote-left.ensures in
-    let few : turn.done < step_count c.args.code.q = omega (arith, c.requires.valid.1, c.loop-done-test.true) in (
+    let few : turn.done < step_count c.code.inside.q = omega (arith, (asked (goal.at.loop-done-preserved c).After-code).0, c.loop-done-test.true) in (
       search rules,
       search rules,
       noting.value,
@@ -49,7 +67,14 @@ loop-done-preserved c =
           (stepped.0.picture, noting.votes_left ∙ ap (noted _ _ _ _) now-then.1 ∙ noted-next _ _ row _ _ rest' few stepped.0.vote-is, stepped.1),
     )
 
+-- what the steps leave under a code
+abbrev Taken : (steps : ℕ) (work votes work' votes' : List ℕ) → Code → Type 0
+Taken steps work votes work' votes' code =
+    (row rest rest' : List ℕ) → work ≡ picture_after code.q code.u row 0 ++ rest → votes ≡ votes_after code.q code.u row 0 ++ rest'
+    → (work' ≡ picture_after code.q code.u row steps ++ rest) × (votes' ≡ votes_after code.q code.u row steps ++ rest')
+
 pub returns : goal.returns
 returns c =
     let e : c.loop-done.done ≡ c.args.steps = omega (arith, c.loop-done-test.false, c.loop-done.auto) in
-    λ row rest rest' w v. let all = (rw e at c.loop-done.invariant.5) row rest rest' w v in (all.0, all.1)
+    subst (Taken c.args.steps c.args.work.now c.args.votes.now c.loop-done.work c.loop-done.votes) c.code.view_is
+    (λ row rest rest' w v. let all = (rw e at c.loop-done.invariant.5) row rest rest' w v in (all.0, all.1))
