@@ -110,11 +110,6 @@ means-settled text nothing nothing means means' = refl
 pub as-read : {text : List ℕ} {said : Said} → said ≡ reading text → Means text said
 as-read {text} e = subst (Means text) (sym e) (reading-means text)
 
--- and its count is within the row
-pub answers : (text : List ℕ) {said : Said} {count size : ℕ} → said ≡ reading text → count ≤ size
-    → (said ≡ reading text) × (Means text said × (count ≤ size))
-answers text e within = (e, (as-read e, within))
-
 -- a text that is too long says nothing
 pub reads-long : (text : List ℕ) → 4096 < length text → nothing ≡ reading text
 unfolding reading said_by is_taken

@@ -1,13 +1,13 @@
 -- What a block's header says of it; and the header that is written is the header that is read, whatever stands behind it.
 -- Assumes nothing.
 use mathlib.Core.Path.{◌≡◌, refl}
-use mathlib.Core.Bool.{Bool, true, ◌&&◌, and-eq-true_iff}
+use mathlib.Core.Bool.{true}
 use mathlib.Core.List.{List, ◌++◌}
 use Prim.Native.Nat.{ℕ, ◌+◌, ◌*◌, ◌≤◌}
 use native.Mathlib.Omega.{arith}
-use lib.Dec.{leb, eqb}
 use lib.ListN.{length, get_or, drop}
-use borrow.Author.Tests.{eq-eqb, le-leb, eqb-true, leb-true}
+use borrow.Author.Tests.{eq-eqb, le-leb}
+use Rattle.std.proofs.lemmas.Bool.Decides.{nat_tests}
 use Rattle.layout.specs.Layout.{tape_u, two_bytes, four_bytes, in_two_bytes, in_four_bytes, row_count, block_length}
 use Rattle.layout.specs.Layout.{is_header, is_block, header_of}
 
@@ -17,27 +17,13 @@ pub record Sized (block : List ℕ) : Type 0 where
   pub some : 1 ≤ row_count block
   pub most : row_count block ≤ 1024
 
--- the last two of five tests
-of-five : (a b c d e : Bool) → (a && (b && (c && (d && e)))) ≡ true → (d ≡ true) × (e ≡ true)
-of-five a b c d e is =
-    let one = (and-eq-true_iff a (b && (c && (d && e)))).0 is in
-    let two = (and-eq-true_iff b (c && (d && e))).0 one.1 in
-    let three = (and-eq-true_iff c (d && e)).0 two.1 in
-    (and-eq-true_iff d e).0 three.1
-
 pub sized : (block : List ℕ) → is_block block ≡ true → Sized block
 unfolding is_block is_header
 sized block is =
-    let R = row_count block in
-    let tests = (and-eq-true_iff (eqb (length block) (block_length R)) (is_header block)).0 is in
-    let bounds =
-    of-five (eqb (four_bytes block 0) (4 + 32 * R)) (eqb (get_or block 4 0) 1) (eqb (get_or block 5 0) tape_u) (leb 1 R) (leb R 1024)
-    tests.1
-    in
     record {
-      rows = eqb-true (length block) (block_length R) tests.0;
-      some = leb-true 1 R bounds.0;
-      most = leb-true R 1024 bounds.1;
+      rows = grind (arith, nat_tests);
+      some = grind (arith, nat_tests);
+      most = grind (arith, nat_tests);
     }
 
 -- the header of a block has 8 bytes

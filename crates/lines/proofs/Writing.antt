@@ -6,8 +6,9 @@ use Prim.Native.Nat.{ℕ, zero, suc, ◌+◌, ◌/◌, ◌%◌, ◌≤◌, ◌<�
 use native.Mathlib.Nat.{add-zero, add_assoc}
 use native.Mathlib.Numerals.{add-one}
 use native.Mathlib.Omega.{arith}
+use borrow.Rule.Slice.PartMut.{put_mid}
 use lib.ListN.{length, take, drop, set, get_or, length-append, length-drop, take-append-drop}
-use lib.Seq.{set_split, take-suc, take_at, drop_at, drop-drop, length-take-le}
+use lib.Seq.{set_split, take_at, drop_at, drop-drop, length-take-le}
 use Rattle.lines.specs.Text.{digits, spaced, written, Wrote}
 use Rattle.lines.proofs.Digits.{digits-small, digits-large, length-digits-large}
 
@@ -106,12 +107,12 @@ pub wrote-large : {l m k : List ℕ} {at n d last next : ℕ} → 10 ≤ n → d
 wrote-large {l} {m} {k} {at} {n} {d} {last} {next} large e fits first second =
     rw (digits-large n large, ← e) (wrote-more (omega (arith, length-digits-large n large)) first second)
 
--- one more byte of a word
-pub wrote-word-more : {l m k : List ℕ} {at next last : ℕ} (word : List ℕ) (done : ℕ) → at + length word ≤ length l → done < length word
-    → Wrote l at (take done word) m next → Wrote m next (get_or word done 0 ∷ []) k last → Wrote l at (take (done + 1) word) k last
-wrote-word-more {l} {m} {k} {at} word done fits h first second =
-    let short : length (take done word) ≡ done = length-take-le done word (omega arith) in
-    rw (add-one, take-suc word done 0 h) (wrote-more (omega arith) first second)
+-- a word copied into the part of a buffer that begins at a place
+pub wrote-part : (l : List ℕ) (at : ℕ) {word part : List ℕ} {size : ℕ} → part ≡ word → size ≡ length word
+    → Wrote l at word (put_mid at size l part) (at + length word)
+unfolding written
+wrote-part l at {word} same whole =
+    record { place = refl; buffer = rw (same, whole) (ap (λ (rest : List ℕ). take at l ++ (word ++ rest)) (drop-drop (length word) at l)) }
 
 -- numbers taken from a list, one after the other
 spaced-more : (numbers : List ℕ) (done : ℕ) → done < length numbers

@@ -19,12 +19,8 @@ pub fn put_word(buffer: &mut [u8], at: usize, word: &[u8]) -> usize
     requires { at + length word.now ≤ length buffer.old }
     ensures { Wrote buffer.old at word.now buffer.new result }
 {
-    let mut next = at;
-    let mut done = 0;
-    while done < word.len() {
-        next = put_byte(buffer, next, word[done]);
-        done += 1;
-    }
+    let next = at + word.len();
+    buffer[at..next].copy_from_slice(word);
     next
 }
 
@@ -33,7 +29,7 @@ fn digit(d: usize) -> u8
     requires { d < 10 }
     ensures { result ≡ 48 + d }
 {
-    48 + d as u8
+    b'0' + d as u8
 }
 
 // A number in decimal. It calls itself for the digits before the last: at most 20 calls deep.
@@ -54,11 +50,9 @@ pub fn put_spaced(buffer: &mut [u8], at: usize, numbers: &[u8]) -> usize
     ensures { Wrote buffer.old at (spaced numbers.now) buffer.new result }
 {
     let mut next = at;
-    let mut done = 0;
-    while done < numbers.len() {
+    for &number in numbers {
         next = put_byte(buffer, next, b' ');
-        next = put_number(buffer, next, numbers[done] as usize);
-        done += 1;
+        next = put_number(buffer, next, usize::from(number));
     }
     next
 }

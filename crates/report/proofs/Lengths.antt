@@ -1,6 +1,6 @@
 -- How long the lines are at most, by the largest numbers that may stand in them.
 -- Assumes nothing.
-use mathlib.Core.Bool.{Bool, true, false}
+use Rattle.std.proofs.Common.{Option, Some, None, IfSome}
 use mathlib.Core.List.{List, []}
 use Prim.Native.Nat.{ℕ, suc, ◌+◌, ◌*◌, ◌≤◌, ◌<◌}
 use native.Mathlib.Omega.{arith}
@@ -38,17 +38,17 @@ length-accept most_count most_symbol count message few all =
     simp length-append (omega (arith, digits-widen count most_count few, length-spaced most_symbol message all))
 
 -- a vote takes a space and its digits, and " -" is not longer
-length-vote : (most vote : ℕ) (voted : Bool) → vote ≤ most → length (vote_text voted vote) ≤ suc (length (digits most))
+length-vote : (most : ℕ) (vote : Option ℕ) → IfSome vote (λ number. number ≤ most) → length (vote_text vote) ≤ suc (length (digits most))
 unfolding vote_text spaced ascii
-length-vote most vote true few = omega (arith, digits-widen vote most few, length-append (digits vote) [])
-length-vote most vote false few = omega (arith, some-digit most)
+length-vote most (Some vote) few = omega (arith, digits-widen vote most few, length-append (digits vote) [])
+length-vote most None few = omega (arith, some-digit most)
 
 -- a step's line takes its weight, its vote, its degrees and a newline
-pub length-step-text : (most_weight most_vote most_degree s vote : ℕ) (voted : Bool) (degrees : List ℕ) → s ≤ most_weight → vote ≤ most_vote
-    → ((i : ℕ) → get_or degrees i 0 ≤ most_degree)
-    → length (step_text s voted vote degrees)
+pub length-step-text : (most_weight most_vote most_degree s : ℕ) (vote : Option ℕ) (degrees : List ℕ) → s ≤ most_weight
+    → IfSome vote (λ number. number ≤ most_vote) → ((i : ℕ) → get_or degrees i 0 ≤ most_degree)
+    → length (step_text s vote degrees)
     ≤ length (digits most_weight) + suc (length (digits most_vote)) + length degrees * suc (length (digits most_degree)) + 1
 unfolding step_text
-length-step-text most_weight most_vote most_degree s vote voted degrees light few low =
+length-step-text most_weight most_vote most_degree s vote degrees light few low =
     simp length-append
-    (omega (arith, digits-widen s most_weight light, length-vote most_vote vote voted few, length-spaced most_degree degrees low))
+    (omega (arith, digits-widen s most_weight light, length-vote most_vote vote few, length-spaced most_degree degrees low))

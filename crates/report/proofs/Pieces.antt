@@ -1,6 +1,6 @@
 -- How long the lines are by their pieces.
 -- Assumes nothing.
-use Rattle.std.proofs.Common.{◌≡◌, Bool, List, ℕ, ◌+◌, arith, length, length-append}
+use Rattle.std.proofs.Common.{◌≡◌, Option, List, ℕ, ◌+◌, arith, length, length-append}
 use Rattle.lines.specs.Text.{ascii, digits, spaced}
 use Rattle.refusals.specs.declared.Refusal.{Refusal}
 use Rattle.refusals.specs.Numbers.{refusal_number}
@@ -15,7 +15,7 @@ pub length-accept-pieces : (count : ℕ) (message : List ℕ)
 unfolding accept_line ascii
 length-accept-pieces count message = simp length-append (omega arith)
 
-pub length-step-pieces : (s : ℕ) (voted : Bool) (vote : ℕ) (degrees : List ℕ)
-    → length (step_text s voted vote degrees) ≡ length (digits s) + length (vote_text voted vote) + length (spaced degrees) + 1
+pub length-step-pieces : (s : ℕ) (vote : Option ℕ) (degrees : List ℕ)
+    → length (step_text s vote degrees) ≡ length (digits s) + length (vote_text vote) + length (spaced degrees) + 1
 unfolding step_text
-length-step-pieces s voted vote degrees = simp length-append
+length-step-pieces s vote degrees = simp length-append

@@ -9,36 +9,33 @@ ghost use Rattle.asking.specs.Request.{grown as grown_by};
 
 use requesttext::is_text_of;
 
-// What a text asks: q, u and how many numbers the row has; or nothing that is taken.
+// What a text asks: q, u and how many numbers the row has.
 #[derive(Clone, Copy)]
-pub enum Reading {
-    Asks { q: usize, u: usize, count: usize },
-    Nothing,
+pub struct Asked {
+    pub q: usize,
+    pub u: usize,
+    pub count: usize,
 }
 
 // The number that ends first from a place on, and the place after what ends it.
 #[derive(Clone, Copy)]
-pub enum Found {
-    Number { value: usize, next: usize },
-    End,
+struct Found {
+    value: usize,
+    next: usize,
 }
 
 // A space or a newline ends a number.
 fn ends_number(byte: u8) -> bool
     ensures { result ≡ ends_number byte }
 {
-    byte == b' ' || byte == b'\n'
+    matches!(byte, b' ' | b'\n')
 }
 
 // What a byte counts for as a digit, whatever it is.
 fn digit_of(byte: u8) -> usize
     ensures { result ≡ byte - 48 }
 {
-    if byte < b'0' {
-        0
-    } else {
-        (byte - b'0') as usize
-    }
+    usize::from(byte.saturating_sub(b'0'))
 }
 
 // A number of at most three digits with one more digit: of four the first is lost.
@@ -50,23 +47,21 @@ fn grown(value: usize, byte: u8) -> usize
 }
 
 // The number that ends first from a place on.
-fn number_at(text: &[u8], from: usize) -> Found
+fn number_at(text: &[u8], from: usize) -> Option<Found>
     ensures { FoundIn text.now from result }
 {
     let mut value = 0;
-    let mut at = from;
-    while at < text.len() {
+    for at in from..text.len() {
         let byte = text[at];
         if ends_number(byte) {
-            return Found::Number {
+            return Some(Found {
                 value,
                 next: at + 1,
-            };
+            });
         }
         value = grown(value, byte);
-        at += 1;
     }
-    Found::End
+    None
 }
 
 // The numbers from a place on as a row; answers how many there are.
@@ -77,48 +72,30 @@ fn read_row(text: &[u8], from: usize, row: &mut [u8]) -> usize
 {
     let mut at = from;
     let mut count = 0;
-    while at < text.len() {
-        let Found::Number { value, next } = number_at(text, at) else {
-            return count;
-        };
-        row[count] = (value % 256) as u8;
+    while let Some(found) = number_at(text, at) {
+        row[count] = (found.value % 256) as u8;
         count += 1;
-        at = next;
+        at = found.next;
     }
     count
 }
 
-// What a text asks; the row's numbers go into the first places of a lent row.
-pub fn read_request(text: &[u8], row: &mut [u8]) -> Reading
+// What a text asks, if it is taken; the row's numbers go into the first places of a lent row.
+pub fn read_request(text: &[u8], row: &mut [u8]) -> Option<Asked>
     requires { length row.old ≡ 4096 }
     ensures row_after { saying result row.new ≡ reading text.now }
     ensures means { Means text.now (saying result row.new) }
     ensures result_in_bounds { count_in result ≤ length row.new }
 {
     if text.len() > 4096 {
-        return Reading::Nothing;
+        return None;
     }
-    let Found::Number {
-        value: q,
-        next: after_q,
-    } = number_at(text, 0)
-    else {
-        return Reading::Nothing;
-    };
-    let Found::Number {
-        value: u,
-        next: after_u,
-    } = number_at(text, after_q)
-    else {
-        return Reading::Nothing;
-    };
-    let count = read_row(text, after_u, row);
+    let Found { value: q, next } = number_at(text, 0)?;
+    let Found { value: u, next } = number_at(text, next)?;
+    let count = read_row(text, next, row);
     if count == 0 {
-        return Reading::Nothing;
+        return None;
     }
-    if is_text_of(text, q, u, &row[..count]) {
-        Reading::Asks { q, u, count }
-    } else {
-        Reading::Nothing
-    }
+    let taken = is_text_of(text, q, u, &row[..count]);
+    taken.then_some(Asked { q, u, count })
 }

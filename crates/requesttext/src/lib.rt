@@ -25,7 +25,7 @@ fn put_row(buffer: &mut [u8], at: usize, row: &[u8]) -> usize
     requires row_in_bounds { at + length (line row.now) ≤ length buffer.old }
     ensures { Wrote buffer.old at (line row.now) buffer.new result }
 {
-    let first = put_number(buffer, at, row[0] as usize);
+    let first = put_number(buffer, at, usize::from(row[0]));
     let last = put_spaced(buffer, first, &row[1..]);
     put_byte(buffer, last, b'\n')
 }

@@ -32,10 +32,7 @@ pub fn put_line(out: &mut [u8], at: usize, word: &[u8], n: usize) -> usize
 fn is_told(state: u8, count: u8) -> bool
     ensures { result ≡ tells state count }
 {
-    if state != 0 {
-        return true;
-    }
-    count != 0
+    state != 0 || count != 0
 }
 
 // The line of a row, nothing if it has nothing to tell.
@@ -47,8 +44,8 @@ fn put_row(out: &mut [u8], at: usize, r: usize, state: u8, count: u8) -> usize
         return at;
     }
     let row = put_piece(out, at, b"row ", r);
-    let states = put_piece(out, row, b" state ", state as usize);
-    let counts = put_piece(out, states, b" count ", count as usize);
+    let states = put_piece(out, row, b" state ", usize::from(state));
+    let counts = put_piece(out, states, b" count ", usize::from(count));
     put_byte(out, counts, b'\n')
 }
 
@@ -59,12 +56,8 @@ pub fn put_rows(out: &mut [u8], records: &[u8], rows: usize) -> usize
     ensures upper_bound { result ≤ 29 * rows }
 {
     let mut at = 0;
-    let mut r = 0;
-    while r < rows {
-        let state = records[2 * r];
-        let count = records[2 * r + 1];
-        at = put_row(out, at, r, state, count);
-        r += 1;
+    for r in 0..rows {
+        at = put_row(out, at, r, records[2 * r], records[2 * r + 1]);
     }
     at
 }

@@ -2,6 +2,8 @@
 -- Assumes nothing.
 use mathlib.Core.Path.{◌≡◌, ap, ap₂, sym, ◌∙◌}
 use mathlib.Core.Bool.{Bool}
+use Rattle.std.specs.Prelude.{Option}
+use Rattle.std.specs.Bool.{then_some}
 use mathlib.Core.List.{List, [], ◌∷◌, ◌++◌, append_assoc, append-nil}
 use Prim.Native.Nat.{ℕ, zero, suc, ◌+◌, ◌*◌, ◌-◌, ◌/◌, ◌%◌, ◌≤◌, ◌<◌}
 use native.Mathlib.Nat.{add-zero, div-eq_of_lt, mod-eq_of_lt, add-div_left, add-mod_left}
@@ -19,9 +21,7 @@ use Rattle.published.specs.Pairing.{is_voted, degree, degree_of, degree_f, degre
 use Rattle.published.specs.Steps.{State}
 use Rattle.workarea.specs.Area.{cells_of}
 use Rattle.report.specs.Report.{step_text}
-use Rattle.stepline.specs.StepLine.{step_line}
-use Rattle.stepline.specs.StepLine.{degrees}
-use Rattle.stepline.specs.StepLine.{vote_at}
+use Rattle.stepline.specs.StepLine.{step_line, degrees, vote_at}
 use Rattle.stepline.specs.Shown.{leader}
 
 -- the degree of the leading polynomial's row r
@@ -87,8 +87,8 @@ row_read q S before now r d so_far one =
     ∙ ap (λ (k : ℕ). set (put before 0 r (row_degree q S)) k (row_degree q S r)) (sym place) ∙ put-more before 0 r (row_degree q S)
 
 -- a step's line from its pieces
-pub line-is : (q u s : ℕ) (state : State (symbols q) q) {voted : Bool} {vote : ℕ} {read : List ℕ} → voted ≡ is_voted q u s
-    → vote ≡ vote_at q s state → read ≡ degrees q state.polys
-    → step_text s voted vote read ≡ step_line q u s state
+pub line-is : (q u s : ℕ) (state : State (symbols q) q) {voted : Bool} {vote : ℕ} {told : Option ℕ} {read : List ℕ} → told ≡ then_some voted vote
+    → voted ≡ is_voted q u s → vote ≡ vote_at q s state → read ≡ degrees q state.polys
+    → step_text s told read ≡ step_line q u s state
 unfolding step_line
-line-is q u s state {voted} {vote} {read} a b c = rw (a, b, c)
+line-is q u s state is a b c = rw (is, a, b, c)

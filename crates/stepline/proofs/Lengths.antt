@@ -3,6 +3,8 @@
 use mathlib.Core.Path.{◌≡◌, ap, sym, ◌∙◌}
 use mathlib.Core.Bool.{Bool, true, false}
 use mathlib.Core.List.{List, [], ◌∷◌, map}
+use Rattle.std.specs.Prelude.{IfSome}
+use Rattle.std.specs.Bool.{then_some}
 use Prim.Native.Nat.{ℕ, zero, suc, ◌*◌, ◌-◌, ◌≤◌}
 use native.Mathlib.Omega.{arith}
 use lib.Dec.{eqb}
@@ -14,10 +16,7 @@ use Rattle.published.specs.Start.{Polynomials, width, start_weight}
 use Rattle.published.specs.Pairing.{is_voted, degree}
 use Rattle.published.specs.Steps.{State}
 use Rattle.report.proofs.Lengths.{length-step-text}
-use Rattle.stepline.specs.StepLine.{step_size}
-use Rattle.stepline.specs.StepLine.{step_line}
-use Rattle.stepline.specs.StepLine.{degrees}
-use Rattle.stepline.specs.StepLine.{vote_at}
+use Rattle.stepline.specs.StepLine.{step_size, step_line, degrees, vote_at}
 use Rattle.stepline.proofs.LeadingRows.{row_degree, rows-degrees}
 
 -- a symbol's number is at most the largest one's
@@ -60,11 +59,17 @@ vote-most : (q s : ℕ) (state : State (symbols q) q) → vote_at q s state ≤ 
 unfolding vote_at
 vote-most q s state = number-most q (get_or state.votes s (symbol q 0))
 
+-- if there is one
+few_voted : (voted : Bool) (vote most : ℕ) → vote ≤ most → IfSome (then_some voted vote) (λ number. number ≤ most)
+few_voted true vote most few = few
+few_voted false vote most few = tt
+
 -- so no step's line is longer than is said
 pub length-step : (q u s : ℕ) → s ≤ start_weight q → (state : State (symbols q) q) → length (step_line q u s state) ≤ step_size q
 unfolding step_line step_size
 length-step q u s light state =
     let d = degrees q state.polys in
+    let vote = vote_at q s state in
     rw (length-degrees q state.polys) at
-    (length-step-text (start_weight q) (q * q - 1) (width q) s (vote_at q s state) (is_voted q u s) d light (vote-most q s state)
-    (degrees-most q state.polys))
+    (length-step-text (start_weight q) (q * q - 1) (width q) s (then_some (is_voted q u s) vote) d light
+    (few_voted (is_voted q u s) vote (q * q - 1) (vote-most q s state)) (degrees-most q state.polys))

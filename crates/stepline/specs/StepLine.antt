@@ -1,6 +1,7 @@
 -- The line of a step, from the state that the step leaves. Document 01, the end of "Hand-worked table".
 -- Assumes nothing.
 use Rattle.std.specs.Prelude.{List, ◌++◌, ℕ, suc, ◌+◌, ◌*◌, ◌-◌, length, get_or}
+use Rattle.std.specs.Bool.{then_some}
 use Rattle.lists.specs.Tables.{tab}
 use Rattle.lines.specs.Text.{digits}
 use Rattle.report.specs.Report.{step_text}
@@ -19,7 +20,7 @@ degrees q S = tab q (degree_f (symbols q) q S) ++ tab q (degree_g (symbols q) q 
 
 -- the line of step s, given the state after it
 unfoldable pub step_line : (q : ℕ) → ℕ → ℕ → State (symbols q) q → List ℕ
-step_line q u s state = step_text s (is_voted q u s) (vote_at q s state) (degrees q state.polys)
+step_line q u s state = step_text s (then_some (is_voted q u s) (vote_at q s state)) (degrees q state.polys)
 
 -- the bytes that a step's line may take: those of the start weight, of the largest symbol, and of 2q degrees, none of which is
 -- larger than the width of a polynomial's row; a space before each but the first, and a newline

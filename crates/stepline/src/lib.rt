@@ -8,12 +8,8 @@ ghost use Rattle.published.specs.Start.{Polynomials, start_weight};
 ghost use Rattle.workarea.specs.Area.{Area, Starts, cells_of};
 ghost use Rattle.lines.specs.Text.{Wrote};
 ghost use Rattle.published.specs.Steps.{State};
-ghost use Rattle.stepline.specs.StepLine.{step_size};
-ghost use Rattle.stepline.specs.StepLine.{step_line};
-ghost use Rattle.stepline.specs.StepLine.{degrees as degrees_of};
-ghost use Rattle.stepline.specs.StepLine.{vote_at};
-ghost use Rattle.stepline.specs.Shown.{Shown};
-ghost use Rattle.stepline.specs.Shown.{leader as leader_of};
+ghost use Rattle.stepline.specs.StepLine.{step_size, step_line, degrees as degrees_of, vote_at};
+ghost use Rattle.stepline.specs.Shown.{Shown, leader as leader_of};
 
 use report::put_step;
 use steppairs::leading_of;
@@ -35,8 +31,7 @@ pub fn read_degrees(work: &[u8], q: usize, degrees: &mut [u8])
     ensures { (S : Polynomials (symbols q) q) → Starts q work.now (cells_of q S) → take (2 * q) degrees.new ≡ degrees_of q S }
 {
     for r in 0..2 * q {
-        let leading = leading_of(work, q, leader(q, r), r);
-        degrees[r] = leading.degree as u8;
+        degrees[r] = leading_of(work, q, leader(q, r), r).degree as u8;
     }
 }
 
@@ -58,6 +53,6 @@ pub fn put_step_line(
 {
     let mut degrees = [0u8; MOST_POLYNOMIALS];
     read_degrees(work, q, &mut degrees);
-    let count = 2 * q;
-    put_step(out, at, s, is_voted(q, u, s), vote, &degrees[..count])
+    let vote = is_voted(q, u, s).then_some(vote);
+    put_step(out, at, s, vote, &degrees[..2 * q])
 }

@@ -2,6 +2,7 @@
 #![tactic(auto)]
 
 // What stands in an area before a call, and what is read where no digit is: no symbol.
+// A byte and no Option, since it stands in areas of bytes.
 pub const UNTOUCHED: u8 = 255;
 
 // The number of a digit. Letters beyond f are the numbers from 16 on, which are no symbols.
@@ -24,41 +25,26 @@ fn digit_of_symbol(symbol: u8) -> u8 {
 
 // Digits into their numbers, where they stand.
 pub fn read_symbols(text: &mut [u8]) {
-    let mut i = 0;
-    while i < text.len() {
-        text[i] = number_of_digit(text[i]);
-        i += 1;
+    for symbol in text.iter_mut() {
+        *symbol = number_of_digit(*symbol);
     }
 }
 
 // Symbols into their digits, where they stand.
 pub fn spell_symbols(area: &mut [u8]) {
-    let mut i = 0;
-    while i < area.len() {
-        area[i] = digit_of_symbol(area[i]);
-        i += 1;
+    for symbol in area.iter_mut() {
+        *symbol = digit_of_symbol(*symbol);
     }
 }
 
 // A decimal number of at most four digits.
 pub fn read_number(text: &[u8]) -> usize {
-    let mut number = 0;
-    let mut i = 0;
-    while i < text.len() {
-        number = number % 1000 * 10 + number_of_digit(text[i]) as usize;
-        i += 1;
-    }
-    number
+    text.iter().fold(0, |number, &digit| {
+        number % 1000 * 10 + number_of_digit(digit) as usize
+    })
 }
 
 // How many places are zero before the first that is not.
 pub fn zeros_first(area: &[u8]) -> usize {
-    let mut zeros = 0;
-    while zeros < area.len() {
-        if area[zeros] != 0 {
-            return zeros;
-        }
-        zeros += 1;
-    }
-    zeros
+    area.iter().take_while(|&&symbol| symbol == 0).count()
 }

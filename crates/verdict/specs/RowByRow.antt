@@ -1,26 +1,21 @@
 -- The verdict on a block before the first row and after each. Document 01, "Block and verification".
 -- Assumes nothing.
-use Rattle.std.specs.Prelude.{true, false, List, ℕ, ◌+◌, eqb}
+use Rattle.std.specs.Prelude.{true, false, List, ℕ, ◌+◌, eqb, Result, Ok, Err}
+use Rattle.refusals.specs.declared.Refusal.{Refusal}
 use Rattle.refusals.specs.Numbers.{first_of}
+use Rattle.layout.specs.Layout.{row_count}
 use Rattle.verdict.specs.Checks.{checks_for}
 use Rattle.answers.specs.declared.Record.{Record}
-use Rattle.answers.specs.declared.Verified.{Verified}
-use Rattle.answers.specs.declared.Verified.TheVariants.{Copied, Differs, Unreadable, Refused}
+use Rattle.answers.specs.declared.Verdict.{Verdict}
+use Rattle.answers.specs.declared.Verdict.TheVariants.{Copied, Differs, Unreadable}
 
--- the verdict before any row is read: the refusal that is due, or Copied
-unfoldable pub verdict_before : List ℕ → List ℕ → ℕ → ℕ → Verified
-verdict_before block payload records work = first_of (checks_for block payload records work) Refused (Copied 0)
-
--- all rows, and none after a refusal
-unfoldable pub rows_to_read : Verified → ℕ → ℕ
-rows_to_read (Copied total) rows = rows
-rows_to_read (Differs r) rows = 0
-rows_to_read (Unreadable r) rows = 0
-rows_to_read (Refused why) rows = 0
+-- before any row is read: the refusal that is due, and then no row is read; or Copied, and how many rows are to be read, which is all
+unfoldable pub verdict_before : List ℕ → List ℕ → ℕ → ℕ → Result (Verdict × ℕ) Refusal
+verdict_before block payload records work = first_of (checks_for block payload records work) Err (Ok (Copied 0, row_count block))
 
 -- the verdict after row r too: while it is Copied the row's count is added, or the row ends it with Differs or Unreadable; after
--- that, and after a refusal, it stays
-unfoldable pub next_verdict : Verified → ℕ → Record → Verified
+-- that it stays
+unfoldable pub next_verdict : Verdict → ℕ → Record → Verdict
 next_verdict (Copied total) r x =
     elim (eqb x.state 0) [
       | true ↦ Copied (total + x.count)
@@ -28,11 +23,9 @@ next_verdict (Copied total) r x =
     ]
 next_verdict (Differs i) r x = Differs i
 next_verdict (Unreadable i) r x = Unreadable i
-next_verdict (Refused why) r x = Refused why
 
 -- the sum of counts so far
-unfoldable pub total_of : Verified → ℕ
+unfoldable pub total_of : Verdict → ℕ
 total_of (Copied total) = total
 total_of (Differs r) = 0
 total_of (Unreadable r) = 0
-total_of (Refused why) = 0

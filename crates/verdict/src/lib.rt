@@ -2,57 +2,51 @@
 #![tactic(auto)]
 
 ghost use Rattle.std.specs.Prelude.{◌≡◌, ℕ, ◌+◌, ◌<◌, ◌^◌, get_or};
-ghost use Rattle.layout.specs.Layout.{row_count};
-ghost use Rattle.verdict.specs.RowByRow.{verdict_before, rows_to_read, next_verdict, total_of};
+ghost use Rattle.verdict.specs.RowByRow.{verdict_before, next_verdict, total_of};
 
-use answers::{Record, Verified};
+use answers::{Record, Verdict};
 use layout::{MESSAGE_BYTES, TAPE_AREA, is_block, row_count};
 use refusals::Refusal;
 
-// The verdict before any row is read, where so many records and so many places of work are lent. That the block and the payload are
-// bytes is told on, for those who read rows out of them.
-pub fn verdict_before(block: &[u8], payload: &[u8], records: usize, work: usize) -> Verified
-    ensures { (result ≡ verdict_before block.now payload.now records work)
-        × ((i : ℕ) → get_or block.now i 0 < 256) × ((i : ℕ) → get_or payload.now i 0 < 256) }
+// The verdict before any row is read and how many rows are to be read, where so many records and so many places of work are lent.
+// That the block and the payload are bytes is told on, for those who read rows out of them.
+#[tactic(auto, unfolding(crate::specs::RowByRow::verdict_before, crate::specs::Checks::checks_for, refusals::specs::Numbers::first_of, published::specs::Picture::area_size, published::specs::Start::width))]
+pub fn verdict_before(
+    block: &[u8],
+    payload: &[u8],
+    records: usize,
+    work: usize,
+) -> Result<(Verdict, usize), Refusal>
+    ensures told { result ≡ verdict_before block.now payload.now records work }
+    ensures block_of_bytes { (i : ℕ) → get_or block.now i 0 < 256 }
+    ensures payload_of_bytes { (i : ℕ) → get_or payload.now i 0 < 256 }
 {
     if !is_block(block) {
-        return Verified::Refused(Refusal::BadBlock);
+        return Err(Refusal::BadBlock);
     }
     let rows = row_count(block);
     if payload.len() != MESSAGE_BYTES * rows {
-        return Verified::Refused(Refusal::WrongPayload);
+        return Err(Refusal::WrongPayload);
     }
     if records < rows {
-        return Verified::Refused(Refusal::FewRecords);
+        return Err(Refusal::FewRecords);
     }
     if work < TAPE_AREA {
-        return Verified::Refused(Refusal::ShortWork);
+        return Err(Refusal::ShortWork);
     }
-    Verified::Copied(0)
-}
-
-// How many rows are to be read: none after a refusal.
-pub fn rows_to_read(verdict: Verified, block: &[u8]) -> usize
-    ensures { result ≡ rows_to_read verdict (row_count block.now) }
-{
-    let Verified::Copied(_) = verdict else {
-        return 0;
-    };
-    row_count(block)
+    Ok((Verdict::Copied(0), rows))
 }
 
 // The verdict after row r too, whose outcome is handed in.
-pub fn next_verdict(verdict: Verified, r: usize, outcome: Record) -> Verified
+#[tactic(auto, unfolding(crate::specs::RowByRow::next_verdict, crate::specs::RowByRow::total_of))]
+pub fn next_verdict(verdict: Verdict, r: usize, outcome: Record) -> Verdict
     requires { total_of verdict + outcome.count < 2 ^ 64 }
     ensures { result ≡ next_verdict verdict r outcome }
 {
-    let Verified::Copied(total) = verdict else {
-        return verdict;
-    };
-    let state = outcome.state;
-    match state {
-        0 => Verified::Copied(total + outcome.count as usize),
-        1 => Verified::Differs(r),
-        _ => Verified::Unreadable(r),
+    match (verdict, outcome.state) {
+        (Verdict::Copied(total), 0) => Verdict::Copied(total + usize::from(outcome.count)),
+        (Verdict::Copied(_), 1) => Verdict::Differs(r),
+        (Verdict::Copied(_), _) => Verdict::Unreadable(r),
+        (settled, _) => settled,
     }
 }

@@ -5,17 +5,17 @@ ghost use Rattle.io.specs.Counts.{IsPrefixLen};
 ghost use Rattle.lines.specs.Text.{Wrote};
 ghost use Rattle.writetext.specs.Told.{written_line};
 
-use answers::Written;
-use refusals::number_of;
+use refusals::Refusal;
+use report::put_refusal;
 use rowlines::put_line;
 
 // The line on what writing answered; answers how many bytes it has.
-pub fn written_text(written: Written, out: &mut [u8; 32]) -> usize
+pub fn written_text(written: Result<usize, Refusal>, out: &mut [u8; 32]) -> usize
     ensures text { Wrote out.old 0 (written_line written) out.new result }
     ensures within { IsPrefixLen result out.new }
 {
     match written {
-        Written::Length(bytes) => put_line(out, 0, b"wrote ", bytes),
-        Written::Refused(why) => put_line(out, 0, b"refuse ", number_of(why) as usize),
+        Ok(bytes) => put_line(out, 0, b"wrote ", bytes),
+        Err(why) => put_refusal(out, 0, why),
     }
 }

@@ -1,7 +1,6 @@
 -- `curve::dimension` meets its contract: the range gives the numbers from 0 to u, and the filter leaves the non-gaps of them.
 -- Assumes nothing.
 use mathlib.Core.Path.{◌≡◌, sym, ap, ◌∙◌}
-use mathlib.Core.Logic.{inl}
 use Prim.Native.Nat.{ℕ, ◌+◌, ◌<◌}
 use native.Mathlib.Omega.{arith}
 use lib.ListN.{length, get_or}
@@ -14,10 +13,6 @@ use Rattle.curve.proofs.dimension.Goals as goal
 
 pub overflow_add-u : goal.overflow_add-u
 overflow_add-u c = omega (arith, c.requires.1, count_small _ c.requires.0)
-
-pub count-requires-clause-fits : goal.count-requires-clause-fits
-count-requires-clause-fits c =
-    inl (rw c.filter.ensures.source (omega (arith, c.requires.1, count_small _ c.requires.0)))
 
 pub returns : goal.returns
 unfolding nongap

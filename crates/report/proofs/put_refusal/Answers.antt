@@ -11,16 +11,16 @@ pub put_word-word-requires : goal.put_word-word-requires
 put_word-word-requires c = omega (arith, length-refuse-pieces c.args.why)
 
 pub put_number-number-requires : goal.put_number-number-requires
-put_number-number-requires c = rw c.number_of.ensures (omega (arith, length-refuse-pieces c.args.why))
+put_number-number-requires c = rw (c.from-2.ensures, c.from.ensures) (omega (arith, length-refuse-pieces c.args.why))
 
 pub put_byte-requires : goal.put_byte-requires
 put_byte-requires c =
-    omega (arith, length-refuse-pieces c.args.why, rw c.number_of.ensures at c.put_number-number.ensures.place)
+    omega (arith, length-refuse-pieces c.args.why, rw (c.from-2.ensures, c.from.ensures) at c.put_number-number.ensures.place)
 
 pub returns : goal.returns
 unfolding refuse_line ascii
 returns c =
     let whole = length-refuse-pieces c.args.why in
     wrote-more (omega (arith, whole))
-    (wrote-more (omega (arith, whole)) c.put_word-word.ensures (rw c.number_of.ensures at c.put_number-number.ensures))
+    (wrote-more (omega (arith, whole)) c.put_word-word.ensures (rw (c.from-2.ensures, c.from.ensures) at c.put_number-number.ensures))
     c.put_byte.ensures

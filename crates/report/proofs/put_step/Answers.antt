@@ -7,21 +7,21 @@ use Rattle.report.proofs.Pieces.{length-step-pieces}
 use Rattle.report.proofs.put_step.Goals as goal
 
 pub put_number-weight-requires : goal.put_number-weight-requires
-put_number-weight-requires c = omega (arith, length-step-pieces c.args.s c.args.voted c.args.vote c.args.degrees.now)
+put_number-weight-requires c = omega (arith, length-step-pieces c.args.s c.args.vote c.args.degrees.now)
 
 pub put_vote-votes-requires : goal.put_vote-votes-requires
-put_vote-votes-requires c = omega (arith, length-step-pieces c.args.s c.args.voted c.args.vote c.args.degrees.now)
+put_vote-votes-requires c = omega (arith, length-step-pieces c.args.s c.args.vote c.args.degrees.now)
 
 pub put_spaced-last-requires : goal.put_spaced-last-requires
-put_spaced-last-requires c = omega (arith, length-step-pieces c.args.s c.args.voted c.args.vote c.args.degrees.now)
+put_spaced-last-requires c = omega (arith, length-step-pieces c.args.s c.args.vote c.args.degrees.now)
 
 pub put_byte-requires : goal.put_byte-requires
-put_byte-requires c = omega (arith, length-step-pieces c.args.s c.args.voted c.args.vote c.args.degrees.now)
+put_byte-requires c = omega (arith, length-step-pieces c.args.s c.args.vote c.args.degrees.now)
 
 pub returns : goal.returns
 unfolding step_text
 returns c =
-    let whole = length-step-pieces c.args.s c.args.voted c.args.vote c.args.degrees.now in
+    let whole = length-step-pieces c.args.s c.args.vote c.args.degrees.now in
     wrote-more (simp length-append (omega (arith, whole)))
     (wrote-more (simp length-append (omega (arith, whole)))
     (wrote-more (omega (arith, whole)) c.put_number-weight.ensures c.put_vote-votes.ensures)

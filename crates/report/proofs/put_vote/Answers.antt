@@ -5,17 +5,17 @@ use Rattle.report.specs.Report.{vote_text}
 use Rattle.report.proofs.put_vote.Goals as goal
 
 pub put_spaced-requires : goal.put_spaced-requires
-unfolding vote_text ascii
-put_spaced-requires c = rw c.if-voted.true at c.requires
+unfolding vote_text
+put_spaced-requires c = rw c.in-Some.is at c.requires
 
-pub returns-then-voted : goal.returns-then-voted
-unfolding vote_text ascii
-returns-then-voted c = rw c.if-voted.true c.put_spaced.ensures
+pub returns-in-Some : goal.returns-in-Some
+unfolding vote_text
+returns-in-Some c = rw c.in-Some.is c.put_spaced.ensures
 
 pub put_word-requires : goal.put_word-requires
 unfolding vote_text ascii
-put_word-requires c = rw c.if-voted.false at c.requires
+put_word-requires c = rw c.in-None.is at c.requires
 
-pub returns : goal.returns
+pub returns-in-None : goal.returns-in-None
 unfolding vote_text ascii
-returns c = rw c.if-voted.false c.put_word.ensures
+returns-in-None c = rw c.in-None.is c.put_word.ensures

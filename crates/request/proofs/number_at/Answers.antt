@@ -23,7 +23,6 @@ loop-at-preserved c =
     let at = c.loop-at.at in
     let goes = sym c.ends_number.ensures ∙ c.if-ends_number.false in
     record {
-      later = omega arith;
       small = c.grown-value.ensures.1;
       numbers =
           c.loop-at.invariant.numbers ∙ numbers-go-at c.loop-at.value text at c.loop-at-test.true goes

@@ -5,13 +5,13 @@ use Rattle.std.proofs.Common.{◌≡◌, ◌+◌, ◌-◌, ◌≤◌, ◌++◌, 
 use Rattle.asking.specs.Request.{numbers_from, as_byte}
 use Rattle.request.proofs.read_row.Given as goal
 
-abbrev pub invariant-loop-at : goal.invariant-loop-at
-invariant-loop-at l =
+abbrev pub invariant-loop-found : goal.invariant-loop-found
+invariant-loop-found l =
     record {
       room : l.from + l.count ≤ l.at;
       within : l.count ≤ length l.row;
       so_far : map as_byte (numbers_from 0 (drop l.from l.text)) ≡ take l.count l.row ++ map as_byte (numbers_from 0 (drop l.at l.text));
     }
 
-abbrev pub decreases-loop-at : goal.decreases-loop-at
-decreases-loop-at l = length l.text - l.at
+abbrev pub decreases-loop-found : goal.decreases-loop-found
+decreases-loop-found l = length l.text - l.at

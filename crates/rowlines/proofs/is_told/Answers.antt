@@ -7,6 +7,6 @@ pub returns-then-state-ne0 : goal.returns-then-state-ne0
 unfolding tells
 returns-then-state-ne0 c = rw (ne_eqb _ _ c.if-state-ne0.true)
 
-pub returns : goal.returns
+pub returns-else-state-ne0 : goal.returns-else-state-ne0
 unfolding tells
-returns c = rw (eq-eqb _ _ c.if-state-ne0.false)
+returns-else-state-ne0 c = rw (eq-eqb _ _ c.if-state-ne0.false)

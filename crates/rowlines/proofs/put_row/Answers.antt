@@ -12,4 +12,5 @@ unfolding ascii
 returns c =
     row_written c.args.r c.args.state c.args.count c.ranges.r.fits (omega arith) (omega arith) c.requires
     (sym c.is_told.ensures ∙ c.if-not-is_told.false)
-    c.put_piece-row.ensures.wrote c.put_piece-states.ensures.wrote c.put_piece-counts.ensures.wrote c.put_byte.ensures
+    c.put_piece-row.ensures.wrote (rw c.from.ensures at c.put_piece-states.ensures.wrote)
+    (rw c.from-2.ensures at c.put_piece-counts.ensures.wrote) c.put_byte.ensures

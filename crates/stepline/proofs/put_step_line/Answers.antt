@@ -8,7 +8,7 @@ use Rattle.stepline.proofs.put_step_line.Goals as goal
 pub put_step-requires : goal.put_step-requires
 put_step-requires c =
     let shown = c.requires.shown in
-    let line = line-is c.args.q c.args.u c.args.s shown.state c.is_voted.ensures shown.voted
+    let line = line-is c.args.q c.args.u c.args.s shown.state c.then_some-vote.ensures c.is_voted.ensures shown.voted
     (c.read_degrees.ensures shown.state.polys shown.shows) in
     rw line
     (omega (
@@ -20,5 +20,5 @@ put_step-requires c =
 pub returns : goal.returns
 returns c =
     λ state shows vote.
-    rw (line-is c.args.q c.args.u c.args.s state c.is_voted.ensures vote (c.read_degrees.ensures state.polys shows))
+    rw (line-is c.args.q c.args.u c.args.s state c.then_some-vote.ensures c.is_voted.ensures vote (c.read_degrees.ensures state.polys shows))
     at c.put_step.ensures

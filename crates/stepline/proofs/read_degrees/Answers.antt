@@ -11,16 +11,16 @@ use Rattle.published.specs.Pairing.{degree}
 use Rattle.workarea.specs.Area.{Starts, cells_of}
 use Rattle.stepline.proofs.LeadingRows.{row_degree, row_read, rows-read}
 use Rattle.stepline.proofs.read_degrees.Goals as goal
-use Rattle.stepline.proofs.read_degrees.Goals.{After-leading_of-leading}
+use Rattle.stepline.proofs.read_degrees.Goals.{After-leading_of}
 
 -- the degree that was read is the one of the row
-row-degree : (c : After-leading_of-leading)
+row-degree : (c : After-leading_of)
     → let a = c.args in
-    (S : Polynomials (symbols a.q) a.q) → Starts a.q a.work.now (cells_of a.q S) → c.leading_of-leading.result.degree ≡ row_degree a.q S c.loop-r.r
+    (S : Polynomials (symbols a.q) a.q) → Starts a.q a.work.now (cells_of a.q S) → c.leading_of.result.degree ≡ row_degree a.q S c.loop-r.r
 unfolding row_degree
 row-degree c S starts =
     let q = c.args.q in
-    (c.leading_of-leading.ensures.leading_of (cells_of q S) starts).degree-is
+    (c.leading_of.ensures.leading_of (cells_of q S) starts).degree-is
     ∙ ap (λ (p : ℕ). degree (λ i. number q (cells_of q S p c.loop-r.r i)) (width q)) c.leader.ensures.0
 
 pub loop-r-init : goal.loop-r-init
@@ -34,7 +34,7 @@ loop-r-preserved c = (
   refl,
   simp length-set c.loop-r.invariant.2,
   λ S starts. row_read c.args.q S c.args.degrees.now c.loop-r.degrees c.loop-r.r
-      c.leading_of-leading.result.degree (c.loop-r.invariant.3 S starts) (row-degree (goal.at.loop-r-preserved c).After-leading_of-leading S starts),
+      c.leading_of.result.degree (c.loop-r.invariant.3 S starts) (row-degree (goal.at.loop-r-preserved c).After-leading_of S starts),
 )
 
 pub returns : goal.returns

@@ -1,12 +1,23 @@
 -- `writetext::written_text` meets its contract: the goals that the check leaves open. Assumes nothing.
+use Rattle.std.proofs.Common.{arith}
+use Rattle.io.proofs.Counting.{prefix_len_of_le}
 use Rattle.lines.specs.Text.{ascii}
+use Rattle.lines.proofs.Writing.{wrote-within}
+use Rattle.report.proofs.Lengths.{length-refuse}
 use Rattle.writetext.specs.Told.{written_line}
 use Rattle.writetext.proofs.written_text.Goals as goal
 
-pub returns-in-Length-clause-text : goal.returns-in-Length-clause-text
-unfolding written_line ascii
-returns-in-Length-clause-text c = rw c.in-Length.is c.put_line.ensures.wrote
+pub put_refusal-requires : goal.put_refusal-requires
+put_refusal-requires c = omega (arith, length-refuse c.in-Err.why)
 
-pub returns-in-Refused-clause-text : goal.returns-in-Refused-clause-text
+pub returns-in-Ok-clause-text : goal.returns-in-Ok-clause-text
 unfolding written_line ascii
-returns-in-Refused-clause-text c = rw (c.in-Refused.is, ← c.number_of.ensures) c.put_line-in-Refused.ensures.wrote
+returns-in-Ok-clause-text c = rw c.in-Ok.is c.put_line.ensures.wrote
+
+pub returns-in-Err-clause-text : goal.returns-in-Err-clause-text
+unfolding written_line
+returns-in-Err-clause-text c = rw c.in-Err.is c.put_refusal.ensures
+
+pub returns-in-Err-clause-within : goal.returns-in-Err-clause-within
+returns-in-Err-clause-within c =
+    prefix_len_of_le _ _ (wrote-within (omega (arith, length-refuse c.in-Err.why)) c.put_refusal.ensures)
