@@ -4,17 +4,17 @@
 // `cargo run --example decode_vectors -- rows` and `-- answers`.
 #![tactic(auto)]
 
-use answers::Decoded;
 use files::read_full;
+use refusals::Refusal;
 use std::io;
 use textlines::each_line;
 use vectors::{UNTOUCHED, read_number, read_symbols, spell_symbols, zeros_first};
 
 // The answer as a word and a number.
-fn tell(rt: &impl Print, answer: Decoded) -> io::Result<()> {
+fn tell(rt: &impl Print, answer: Result<usize, Refusal>) -> io::Result<()> {
     match answer {
-        Decoded::Accepted(count) => print!(rt; " accept {count}"),
-        Decoded::Refused(why) => print!(rt; " refuse {}", refusals::number_of(why)),
+        Ok(count) => print!(rt; " accept {count}"),
+        Err(why) => print!(rt; " refuse {why}"),
     }
 }
 

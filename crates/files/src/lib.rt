@@ -19,12 +19,9 @@ const NAME_SIZE: usize = 4096;
 
 // How many words the program was started with, its own name among them.
 pub fn word_count(rt: &impl Env) -> usize {
-    for i in 0..usize::MAX {
-        if let Err(FillError::NotPresent) = rt.arg(i, &mut []) {
-            return i;
-        }
-    }
-    usize::MAX
+    (0..usize::MAX)
+        .find(|&i| matches!(rt.arg(i, &mut []), Err(FillError::NotPresent)))
+        .unwrap_or(usize::MAX)
 }
 
 // Puts an argument at the start of an area and answers it there: none where there is none or it is longer than a name may be.

@@ -7,8 +7,8 @@
 
 ghost use Rattle.std.specs.Prelude.{◌<◌, length};
 
-use answers::Stopped;
 use files::read_full;
+use refusals::Refusal;
 use std::io;
 use textlines::each_line;
 use vectors::{UNTOUCHED, read_number, read_symbols, spell_symbols};
@@ -17,10 +17,10 @@ use vectors::{UNTOUCHED, read_number, read_symbols, spell_symbols};
 const ROW_START: usize = 16;
 
 // The answer as a word, with a number for a refusal.
-fn tell(rt: &impl Print, answer: Stopped) -> io::Result<()> {
+fn tell(rt: &impl Print, answer: Result<(), Refusal>) -> io::Result<()> {
     match answer {
-        Stopped::Done => print!(rt; "done "),
-        Stopped::Refused(why) => print!(rt; "refuse {} ", refusals::number_of(why)),
+        Ok(()) => print!(rt; "done "),
+        Err(why) => print!(rt; "refuse {why} "),
     }
 }
 

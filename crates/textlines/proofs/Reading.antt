@@ -36,7 +36,8 @@ piece-first_line text piece rest i cut long first =
 
 module _ {F P E : Type 0} (test : Mut P (Bor ℕ × Unit {0}) Bool) (call : Mut F (MutBor (List ℕ) × Unit {0}) (Result (Unit {0}) E))
     (step : F → List ℕ → Result (Unit {0}) E → F → Type 0)
-    (says : (f : F) (line : MutBor (List ℕ)) (r : Result (Unit {0}) E) (f' : F) → Called call f (line, tt) r f' → step f line.now r f') where
+    (says : (f : F) (line : MutBor (List ℕ)) (r : Result (Unit {0}) E) (f' : F)
+    → Called call f (line, tt) r f' → step f line.now r f') where
   -- A piece is the first line of what was left, and what is left after it is the text without it.
   piece-first : (s t : SplitInclusiveMut ℕ P) (line : MutBor (List ℕ)) → ComputesKey test ends_line (split_inclusive_mut_callee s)
       → split_inclusive_mut_steps test s (Some line) t
@@ -52,9 +53,10 @@ module _ {F P E : Type 0} (test : Mut P (Bor ℕ × Unit {0}) Bool) (call : Mut 
       (omega (arith, piece.1, piece.2.1), first, rest, computed.0)
 
   -- The calls with the pieces xs went on, and what came then answers r: that no piece is left, or a call that failed.
-  pub calls-each_line : (s : SplitInclusiveMut ℕ P) (xs : List (MutBor (List ℕ))) (t u : SplitInclusiveMut ℕ P) (o : Option (MutBor (List ℕ)))
-      → (f f' : F) (r : Result (Unit {0}) E) (Last : MutBor (List ℕ) → Type 0)
-      → ((line : MutBor (List ℕ)) → Last line → (v : Result (Unit {0}) E) × (h : F) × (why : E) × Called call f' (line, tt) v h × (v ≡ Err why) × (r ≡ Err why))
+  pub calls-each_line : (s : SplitInclusiveMut ℕ P) (xs : List (MutBor (List ℕ))) (t u : SplitInclusiveMut ℕ P)
+      → (o : Option (MutBor (List ℕ))) (f f' : F) (r : Result (Unit {0}) E) (Last : MutBor (List ℕ) → Type 0)
+      → ((line : MutBor (List ℕ)) → Last line
+      → (v : Result (Unit {0}) E) × (h : F) × (why : E) × Called call f' (line, tt) v h × (v ≡ Err why) × (r ≡ Err why))
       → ComputesKey test ends_line (split_inclusive_mut_callee s)
       → Yields (split_inclusive_mut_steps test) s xs t → split_inclusive_mut_steps test t o u
       → FoldsTo (λ p x q. (v : Result (Unit {0}) E) × Called call p (x, tt) v q × (v ≡ Ok tt)) f xs f'

@@ -25,7 +25,7 @@ message c =
     record {
       known = c.code.invariant.known;
       code = c.code.invariant.accepted;
-      whole = (let it : length c.args.message.now ≡ dimension c.code.inside.q c.code.inside.u = c.if-message-code.false ∙ c.code.invariant.k-is in it);
+      whole = c.if-message-code.false ∙ c.code.invariant.k-is;
       all-symbols = not-true _ (sym c.all_symbols.ensures ∙ not-false _ (ap not c.if-not-all_symbols.false));
     }
 
@@ -36,37 +36,42 @@ Encodes message output answer left code =
 
 pub returns-then-message-code : goal.returns-then-message-code
 returns-then-message-code c =
+    let short = wrong-length _ _ _ (rw c.code.invariant.k-is at c.if-message-code.true) in
     let all = subst (Encodes c.args.message.now c.args.output.now (Err WrongLength) (λ code. c.args.output.now)) c.code.view_is
-    (refused-by-message _ _ _ _ (valid-passes c.code.invariant) (wrong-length _ _ _ (rw c.code.invariant.k-is at c.if-message-code.true))) in
+    (refused-by-message _ _ _ _ (valid-passes c.code.invariant) short) in
     record { value = all.0; output_left = all.1 }
 
 pub returns-then-not-all_symbols : goal.returns-then-not-all_symbols
 returns-then-not-all_symbols c =
+    let measured = long (goal.at.returns-then-not-all_symbols c).Else-message-code in
+    let beyond = not-false _ (sym c.all_symbols.ensures ∙ not-true _ (ap not c.if-not-all_symbols.true)) in
     let all = subst (Encodes c.args.message.now c.args.output.now (Err NoSymbol) (λ code. c.args.output.now)) c.code.view_is
-    (refused-by-message _ _ _ _ (valid-passes c.code.invariant)
-    (no_symbol _ _ _ (long (goal.at.returns-then-not-all_symbols c).Else-message-code)
-    (not-false _ (sym c.all_symbols.ensures ∙ not-true _ (ap not c.if-not-all_symbols.true))))) in
+    (refused-by-message _ _ _ _ (valid-passes c.code.invariant) (no_symbol _ _ _ measured beyond)) in
     record { value = all.0; output_left = all.1 }
 
 pub returns-then-output-code : goal.returns-then-output-code
 returns-then-output-code c =
+    let symbols = given-passes (message (goal.at.returns-then-output-code c).Else-not-all_symbols) in
     let all = subst (Encodes c.args.message.now c.args.output.now (Err ShortOutput) (λ code. c.args.output.now)) c.code.view_is
-    (refused-by-output _ _ _ _ (valid-passes c.code.invariant)
-    (given-passes (message (goal.at.returns-then-output-code c).Else-not-all_symbols)) (rw c.code.invariant.n-is at c.if-output-code.true)) in
+    (refused-by-output _ _ _ _ (valid-passes c.code.invariant) symbols (rw c.code.invariant.n-is at c.if-output-code.true)) in
     record { value = all.0; output_left = all.1 }
+
+-- no check holds, so what encoding a row asks for is there
+abbrev Asked : (message output : List ℕ) → Code → Type 0
+Asked message output code = Message code.q code.u message × (point_count code.q ≤ length output)
 
 pub encode_row-requires : goal.encode_row-requires
 encode_row-requires c =
     let passed = (goal.at.encode_row-requires c).Else-not-all_symbols in
-    record {
-      message = subst (λ (code : Code). Message code.q code.u c.args.message.now) c.code.view_is (message passed);
-      room = subst (λ (code : Code). point_count code.q ≤ length c.args.output.now) c.code.view_is (rw c.code.invariant.n-is at c.if-output-code.false);
-    }
+    let given = subst (Asked c.args.message.now c.args.output.now) c.code.view_is
+    (message passed, rw c.code.invariant.n-is at c.if-output-code.false) in
+    record { message = given.0; room = given.1 }
 
 pub returns : goal.returns
 returns c =
+    let symbols = given-passes (message (goal.at.returns c).Else-not-all_symbols) in
     let room = rw c.code.invariant.n-is at c.if-output-code.false in
     let all = subst (Encodes c.args.message.now c.args.output.now (Ok tt)
     (λ code. row_numbers code.q code.u c.args.message.now ++ drop (point_count code.q) c.args.output.now)) c.code.view_is
-    (not-refused _ _ _ _ (valid-passes c.code.invariant) (given-passes (message (goal.at.returns c).Else-not-all_symbols)) room) in
+    (not-refused _ _ _ _ (valid-passes c.code.invariant) symbols room) in
     record { value = all.0; output_left = c.encode_row.ensures ∙ all.1 }

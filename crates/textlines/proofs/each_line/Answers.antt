@@ -16,7 +16,9 @@ returns g c =
     let ran = c.try_for_each.ensures.ran in
     let whole : split_inclusive_mut_rest c.split_inclusive_mut.result ≡ c.args.text.now = search rules in
     rw (sym whole)
-    (calls-each_line _ _ _ (λ f line r f' called. (_, record { shown = line; shows = refl; left = called.met.0.1.0; called = called.met.1; leaves = refl }))
+    (calls-each_line _ _ _
+    (λ f line r f' called.
+    (_, record { shown = line; shows = refl; left = called.met.0.1.0; called = called.met.1; leaves = refl }))
     c.split_inclusive_mut.result ran.0 ran.3.0 _ ran.1 c.args.f ran.2 c.try_for_each.result _
     (λ line last. (last.0, last.1, last.2.0, last.3, last.4, err-is _ _ last.5.1))
     (always_returns_same _ _ _ (λ a r f' called. search rules))
