@@ -57,11 +57,13 @@ module _ (q u : ℕ) (row : List ℕ) where
     unfolding message_after if_accepted
     accepted-front e =
         let behind = drop (dimension q u) message in
-        let whole : after ≡ voted q u row ++ behind = left ∙ ap (λ (d : Result ℕ Refusal). if_accepted d (voted q u row ++ behind) message) e in
+        let whole : after ≡ voted q u row ++ behind =
+        left ∙ ap (λ (d : Result ℕ Refusal). if_accepted d (voted q u row ++ behind) message) e in
         ap (take k) whole ∙ take_at (voted q u row) behind k (voted-count q u row ∙ sym size)
 
     -- so the last line is made from what decoding answers and leaves
-    pub last_line-is : {r : Result ℕ Refusal} → r ≡ decoded q u row → last_line r (take k after) ≡ last_line (decoded q u row) (voted q u row)
+    pub last_line-is : {r : Result ℕ Refusal}
+        → r ≡ decoded q u row → last_line r (take k after) ≡ last_line (decoded q u row) (voted q u row)
     last_line-is {r} answered = by_answer r (sym answered) ∙ ap (λ (d : Result ℕ Refusal). last_line d (voted q u row)) answered
       where
         by_answer : (d : Result ℕ Refusal) → decoded q u row ≡ d → last_line d (take k after) ≡ last_line d (voted q u row)

@@ -32,7 +32,8 @@ not-asked c =
     ap answer_to (sym c.read_request.ensures.row_after ∙ ap (λ r. saying r c.read_request.new.row) c.in-None.is)
 
 -- a trace that was written ends within the buffer
-within : (text before : List ℕ) {after : List ℕ} {end : ℕ} → length before ≡ 2489 → Wrote before 0 (trace_text text) after end → IsPrefixLen end after
+within : (text before : List ℕ) {after : List ℕ} {end : ℕ} → length before ≡ 2489 → Wrote before 0 (trace_text text) after end
+    → IsPrefixLen end after
 within text before size written = prefix_len_of_le _ _ (wrote-within (omega (arith, length-trace text, longest-is)) written)
 
 pub answer-requires : goal.answer-requires
@@ -53,4 +54,5 @@ returns-in-None-clause-wrote c = rw (not-asked (goal.at.returns-in-None-clause-w
 
 pub returns-in-None-clause-prefix_len : goal.returns-in-None-clause-prefix_len
 returns-in-None-clause-prefix_len c =
-    within c.args.text.now c.args.out.now (omega arith) (rw (not-asked (goal.at.returns-in-None-clause-prefix_len c).In-None) c.put_refusal.ensures)
+    within c.args.text.now c.args.out.now (omega arith)
+    (rw (not-asked (goal.at.returns-in-None-clause-prefix_len c).In-None) c.put_refusal.ensures)
