@@ -102,7 +102,8 @@ module _ (payload area : List ℕ) where
           let same : ◌≡◌ {A = Result ℕ Refusal} (Err refuses.0) (Ok n) = sym (refused Err _ refuses.1) ∙ told in
           cc
       go (inr (clear right (clear room done))) =
-          let same : ◌≡◌ {A = Result ℕ Refusal} (Ok (block_length (rows_filled payload))) (Ok n) = sym (passed Err _ (clear right (clear room done))) ∙ told in
+          let same : ◌≡◌ {A = Result ℕ Refusal} (Ok (block_length (rows_filled payload))) (Ok n) =
+          sym (passed Err _ (clear right (clear room done))) ∙ told in
           let size : block_length (rows_filled payload) ≡ n = cc in
           let known = fills payload (not-false _ right) in
           (omega (arith, known.most), omega (arith, ltb-false (length area) (block_length (rows_filled payload)) room))

@@ -49,7 +49,10 @@ verdict-told r total (x ∷ xs) (one_more l ls) = go (eqb x.state 0) refl (verdi
   where
     go : (zero-state : Bool) → eqb x.state 0 ≡ zero-state
         → verdict_values (verdict_from (suc r) (total + x.count) xs) ≡ first_bad (suc r) (total + x.count) xs
-        → verdict_values (elim zero-state [ true ↦ verdict_from (suc r) (total + x.count) xs | false ↦ elim (eqb x.state 1) [ true ↦ Differs r | false ↦ Unreadable r ] ])
+        → verdict_values (elim zero-state [
+          | true ↦ verdict_from (suc r) (total + x.count) xs
+          | false ↦ elim (eqb x.state 1) [ true ↦ Differs r | false ↦ Unreadable r ]
+        ])
         ≡ elim zero-state [ true ↦ first_bad (suc r) (total + x.count) xs | false ↦ x.state ∷ r ∷ [] ]
     go true e rest = rest
     go false e rest = bad-told x.state r l e (eqb x.state 1) refl

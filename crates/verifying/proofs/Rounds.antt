@@ -166,7 +166,8 @@ module _ (block payload : List ℕ) (records work : ℕ) where
       open_first = Ok (first, rows)
 
   -- a row that is read has all it needs
-  pub ready : {first : Verdict} {rows : ℕ} → Begun block payload records work first rows → (r : ℕ) → r < rows → Ready block payload records work r
+  pub ready : {first : Verdict} {rows : ℕ} → Begun block payload records work first rows
+      → (r : ℕ) → r < rows → Ready block payload records work r
   ready begun r less =
       let known = fit block payload records work begun.passes in
       let few : r < row_count block = omega (arith, begun.all) in

@@ -18,7 +18,8 @@ pub record Verifies (block payload : List ℕ) (records : List Record) (work : L
   pub work-is : work' ≡ verify_work block payload records work
 
 -- two results of verifying with a list of records
-pub verify-settled : (block payload : List ℕ) (records : List Record) (work : List ℕ) {answer answer' : Result Verdict Refusal} {records₁ records₂ : List Record} {work₁ work₂ : List ℕ}
+pub verify-settled : (block payload : List ℕ) (records : List Record) (work : List ℕ) {answer answer' : Result Verdict Refusal}
+    {records₁ records₂ : List Record} {work₁ work₂ : List ℕ}
     → Verifies block payload records work answer records₁ work₁ → Verifies block payload records work answer' records₂ work₂
     → (answer ≡ answer') × (records₁ ≡ records₂) × (work₁ ≡ work₂)
 verify-settled block payload records work P P' =

@@ -41,4 +41,5 @@ differing_places block payload = total (row_count block) (λ r. count_of tape_q 
 -- so many records and so many places of work as are lent are enough
 pub record CopiedExactly (block payload : List ℕ) (records work : ℕ) (answer : Result Verdict Refusal) : Type 0 where
   pub only : (places : ℕ) → answer ≡ Ok (Copied places) → NearCopy block payload × (places ≡ differing_places block payload)
-  pub always : NearCopy block payload → row_count block ≤ records → area_size tape_q ≤ work → answer ≡ Ok (Copied (differing_places block payload))
+  pub always : NearCopy block payload → row_count block ≤ records → area_size tape_q ≤ work
+      → answer ≡ Ok (Copied (differing_places block payload))

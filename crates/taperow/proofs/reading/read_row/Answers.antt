@@ -6,7 +6,8 @@ use Rattle.taperow.proofs.reading.read_row.Goals as goal
 use Rattle.taperow.proofs.reading.read_row.Goals.{After-decode}
 
 -- what decoding leaves, of a row that is all symbols
-read : (c : After-decode) → ReadRow c.args.symbols.now c.args.work.now c.args.message.now c.decode.result c.decode.new.work c.decode.new.message
+read : (c : After-decode)
+    → ReadRow c.args.symbols.now c.args.work.now c.args.message.now c.decode.result c.decode.new.work c.decode.new.message
 read c =
     let asked = c.requires in
     let done = c.decode.ensures in
