@@ -49,15 +49,6 @@ dimension-requires c = coded (goal.at.dimension-requires c).Else-not-is_code
 pub reach-requires : goal.reach-requires
 reach-requires c = coded (goal.at.reach-requires c).Else-not-is_code
 
-pub returns : goal.returns
-unfolding named code_checks
-returns c =
-    rw (c.point_count.ensures, c.dimension.ensures, c.reach.ensures)
-    (sym
-    (passed Err _
-    (clear (rw c.is_known.ensures at (ap not c.if-not-is_known.false))
-    (clear (rw c.is_code.ensures at (ap not c.if-not-is_code.false)) done))))
-
 pub invariant_of-result : goal.invariant_of-result
 invariant_of-result c =
     record {
@@ -67,3 +58,12 @@ invariant_of-result c =
       k-is = c.dimension.ensures;
       reach-is = c.reach.ensures;
     }
+
+pub returns : goal.returns
+unfolding named code_checks
+returns c =
+    rw (c.point_count.ensures, c.dimension.ensures, c.reach.ensures)
+    (sym
+    (passed Err _
+    (clear (rw c.is_known.ensures at (ap not c.if-not-is_known.false))
+    (clear (rw c.is_code.ensures at (ap not c.if-not-is_code.false)) done))))
