@@ -12,8 +12,7 @@ use Rattle.refusals.specs.declared.Refusal.TheVariants.{WrongLength, NoSymbol}
 use Rattle.refusals.proofs.Checks.{Refuses, here, later, Passes, done, clear}
 use Rattle.symbols.specs.Rule.{Known, any_beyond}
 use Rattle.symbols.proofs.Bytes.{known-test, test_known}
-use Rattle.curve.specs.declared.Code.{Code}
-use Rattle.curve.specs.Codes.{is_code}
+use Rattle.curve.specs.Codes.{Code, is_code}
 use Rattle.curve.specs.Answers.{code_checks, symbol_checks}
 use Rattle.curve.specs.Given.{Valid, Given}
 use Rattle.curve.proofs.Naming.{passes-known, passes-code}

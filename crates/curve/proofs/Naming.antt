@@ -1,6 +1,6 @@
 -- What q and u name, read off the answer: a refusal is that of the first check that holds, and a code has the numbers of q and u.
 -- Assumes nothing.
-use mathlib.Core.Path.{◌≡◌, refl, sym, subst, ◌∙◌}
+use mathlib.Core.Path.{◌≡◌, sym, subst, ◌∙◌}
 use mathlib.Core.Logic.{◌⊎◌, inl, inr}
 use mathlib.Core.Bool.{true}
 use Prim.Native.Nat.{ℕ}
@@ -10,11 +10,8 @@ use Rattle.std.specs.Prelude.{Result, Ok, Err}
 use Rattle.refusals.specs.declared.Refusal.{Refusal}
 use Rattle.refusals.proofs.Checks.{Refuses, Passes, clear, refused, passed, decide_checks}
 use Rattle.symbols.specs.Rule.{is_known}
-use Rattle.symbols.proofs.Bytes.{test_known}
-use Rattle.curve.specs.declared.Code.{Code}
-use Rattle.curve.specs.Codes.{is_code}
+use Rattle.curve.specs.Codes.{Code, is_code}
 use Rattle.curve.specs.Answers.{code_of, code_checks, named}
-use Rattle.curve.specs.Given.{Valid}
 
 module _ (q u : ℕ) where
   -- a refusal and a code are two answers
@@ -56,9 +53,3 @@ module _ (q u : ℕ) where
   pub passes-code : Passes (code_checks q u) → is_code q u ≡ true
   unfolding code_checks
   passes-code (clear h (clear h' p)) = not-false _ h'
-
--- a code that was named has the numbers that are its own
-pub named-valid : (q u : ℕ) {code : Code} → IsNamed q u code → Valid code
-named-valid q u n =
-    subst Valid (sym n.is)
-    (record { known = test_known q (passes-known q u n.passes); accepted = passes-code q u n.passes; n-is = refl; k-is = refl; reach-is = refl })

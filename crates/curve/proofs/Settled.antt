@@ -8,8 +8,7 @@ use Rattle.std.specs.Prelude.{Result, Ok, Err}
 use Rattle.refusals.specs.declared.Refusal.{Refusal}
 use Rattle.refusals.specs.Numbers.{refused_by, first_of}
 use Rattle.refusals.proofs.Checks.{made_of}
-use Rattle.curve.specs.declared.Code.{Code}
-use Rattle.curve.specs.Codes.{point_count, dimension, reach}
+use Rattle.curve.specs.Codes.{Code, point_count, dimension, reach}
 use Rattle.curve.specs.Answers.{named_as, code_of, code_checks, named}
 
 pub code-settled : (q u : ℕ) {answer answer' : Result Code Refusal} → answer ≡ named q u → answer' ≡ named q u → answer ≡ answer'

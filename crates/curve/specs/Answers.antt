@@ -7,8 +7,7 @@ use Rattle.refusals.specs.declared.Refusal.TheVariants.{UnknownQ, NoCode, WrongL
 use Rattle.refusals.specs.Numbers.{Told, told_as, Check, ◌if◌, first_of}
 use Rattle.symbols.specs.Rule.{is_known, any_beyond}
 use Rattle.curve.specs.declared.Powers.{Powers}
-use Rattle.curve.specs.declared.Code.{Code}
-use Rattle.curve.specs.Codes.{point_count, is_code, dimension, reach}
+use Rattle.curve.specs.Codes.{Code, point_count, is_code, dimension, reach}
 
 -- the powers of x and y of the monomial of s, if s is no gap
 unfoldable pub monomial_of : ℕ → ℕ → Option Powers

@@ -32,3 +32,11 @@ distance q u =
 -- τ, the reach: half of the distance less one, rounded down
 unfoldable pub reach : ℕ → ℕ → ℕ
 reach q u = (distance q u - 1) / 2
+
+-- a code as contracts see it: its q and u, how many symbols a row and a message have, and its reach
+pub record Code : Type 0 where
+  pub q : ℕ
+  pub u : ℕ
+  pub n : ℕ
+  pub k : ℕ
+  pub reach : ℕ

@@ -2,8 +2,7 @@
 -- Assumes nothing.
 use Rattle.std.specs.Prelude.{◌≡◌, true, false, List, ℕ, length}
 use Rattle.symbols.specs.Rule.{Known, any_beyond}
-use Rattle.curve.specs.declared.Code.{Code}
-use Rattle.curve.specs.Codes.{point_count, is_code, dimension, reach}
+use Rattle.curve.specs.Codes.{Code, point_count, is_code, dimension, reach}
 
 -- a code with the numbers that are its own
 pub record Valid (code : Code) : Type 0 where

@@ -4,10 +4,12 @@
 ghost use Rattle.std.specs.Prelude.{◌≡◌, ◌/◌, ◌%◌, ◌<◌};
 ghost use Rattle.algebra.specs.Weights.{gap};
 ghost use Rattle.symbols.specs.Rule.{Known};
-ghost use Rattle.curve.specs.Codes.{point_count, is_code, dimension as dimension_of, distance as distance_of, reach as reach_of};
+ghost use Rattle.curve.specs.Codes.{Code as CodeNumbers, point_count, is_code, dimension as dimension_of, distance as distance_of, reach as reach_of};
 ghost use Rattle.curve.specs.Answers.{monomial_of, named};
+ghost use Rattle.curve.specs.Given.{Valid};
 
 use refusals::Refusal;
+use std::marker::Model;
 
 // The powers of x and of y in a monomial.
 #[derive(Clone, Copy)]
@@ -16,7 +18,7 @@ pub struct Powers {
     pub y: usize,
 }
 
-// A code: q and u, how many symbols a row and a message have, and the reach.
+// A code: q and u, how many symbols a row and a message have, and the reach. Each value is one of the codes, with its own numbers.
 #[derive(Clone, Copy)]
 pub struct Code {
     pub q: usize,
@@ -24,6 +26,16 @@ pub struct Code {
     pub n: usize,
     pub k: usize,
     pub reach: usize,
+}
+
+impl Model for Code {
+    ghost Value = { CodeNumbers };
+
+    ghost view = { λ c. record { q = c.q; u = c.u; n = c.n; k = c.k; reach = c.reach } };
+
+    ghost invariant = { λ c. Valid (record { q = c.q; u = c.u; n = c.n; k = c.k; reach = c.reach }) };
+
+    ghost inverse = { λ c. record { q = c.q; u = c.u; n = c.n; k = c.k; reach = c.reach } };
 }
 
 // The remainder by q. A divisor that the compiler does not know takes it many times as long as one that it does.

@@ -5,7 +5,7 @@ ghost use Rattle.std.specs.Prelude.{◌≡◌};
 ghost use Rattle.published.specs.Picture.{area_size};
 ghost use Rattle.decoder.specs.Decoding.{decoded, decode_answer, decode_work, decode_message, decode_corrected};
 ghost use Rattle.voting.specs.Voting.{cleared};
-ghost use Rattle.curve.specs.Given.{Valid, Received};
+ghost use Rattle.curve.specs.Given.{Received};
 ghost use Rattle.decoder.specs.FullRows.{Room, message_after, corrected_after};
 ghost use Rattle.decoder.specs.Undamaged.{Undamaged};
 ghost use Rattle.decoder.specs.WithinReach.{WithinReach};
@@ -22,20 +22,19 @@ pub fn decode_row(
     message: &mut [u8],
     corrected: &mut [u8],
 ) -> Result<usize, Refusal>
-    requires valid { Valid code × Received code.q code.u row.now }
+    requires received { Received code.q code.u row.now }
     requires room { Room code.q code.u work.old message.old corrected.old }
     ensures value { result ≡ decoded code.q code.u row.now }
     ensures work_left { work.new ≡ cleared (area_size code.q) work.old }
     ensures message_left { message.new ≡ message_after code.q code.u row.now message.old }
     ensures corrected_left { corrected.new ≡ corrected_after code.q code.u row.now corrected.old }
 {
-    let n = code.n;
-    let k = code.k;
+    let Code { n, k, reach, .. } = code;
     let mut votes = [0u8; MOST_POINTS];
     voting::vote_all(code, row, work, &mut votes);
     let mut sent = [0u8; MOST_POINTS];
     let count = judging::judge(code, &votes[..k], row, &mut sent);
-    if code.reach < count {
+    if reach < count {
         return Err(Refusal::BeyondReach);
     }
     message[..k].copy_from_slice(&votes[..k]);
@@ -51,7 +50,6 @@ fn decode_under(
     message: &mut [u8],
     corrected: &mut [u8],
 ) -> Result<usize, Refusal>
-    requires { Valid code }
     ensures answered { result ≡ decode_answer code.q code.u row.now work.old message.old corrected.old }
     ensures work_left { work.new ≡ decode_work code.q code.u row.now work.old message.old corrected.old }
     ensures message_left { message.new

@@ -4,7 +4,7 @@
 
 ghost use Rattle.std.specs.Prelude.{◌≡◌, ◌++◌, ◌≤◌, length, drop};
 ghost use Rattle.curve.specs.Codes.{point_count};
-ghost use Rattle.curve.specs.Given.{Valid, Message};
+ghost use Rattle.curve.specs.Given.{Message};
 ghost use Rattle.encoder.specs.Encoding.{row_numbers, encode_answer, encode_output};
 
 use curve::Code;
@@ -15,7 +15,8 @@ use refusals::Refusal;
 // The row of a message, written to the first n places. A row of the tape code takes 976 products: at each of the 16 x eleven
 // for each of the 4 powers of y, five for x⁵, and then three at each of the 4 points above it.
 pub fn encode_row(code: Code, message: &[u8], row: &mut [u8])
-    requires { Valid code × Message code.q code.u message.now × (point_count code.q ≤ length row.old) }
+    requires message { Message code.q code.u message.now }
+    requires room { point_count code.q ≤ length row.old }
     ensures { row.new ≡ row_numbers code.q code.u message.now ++ drop (point_count code.q) row.old }
 {
     let q = code.q;
@@ -31,7 +32,6 @@ pub fn encode_row(code: Code, message: &[u8], row: &mut [u8])
 
 // Encoding under a code: refused with 4, 5 or 7, or done.
 fn encode_under(code: Code, message: &[u8], output: &mut [u8]) -> Result<(), Refusal>
-    requires { Valid code }
     ensures value { result ≡ encode_answer code.q code.u message.now output.old }
     ensures output_left { output.new ≡ encode_output code.q code.u message.now output.old }
 {

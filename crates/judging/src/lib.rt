@@ -5,7 +5,7 @@ ghost use Rattle.std.specs.Prelude.{◌≡◌, ◌==◌, ◌++◌, ◌≤◌, no
 ghost use Rattle.curve.specs.Codes.{point_count};
 ghost use Rattle.encoder.specs.Encoding.{row_numbers};
 ghost use Rattle.judging.specs.Judging.{count_of};
-ghost use Rattle.curve.specs.Given.{Valid, Message};
+ghost use Rattle.curve.specs.Given.{Message};
 
 use curve::Code;
 
@@ -18,9 +18,9 @@ fn count_differing(a: &[u8], b: &[u8]) -> usize
 
 // Writes the message's row into `sent`, and counts the places where the row differs from it.
 pub fn judge(code: Code, message: &[u8], row: &[u8], sent: &mut [u8]) -> usize
-    requires valid { Valid code × Message code.q code.u message.now }
+    requires message { Message code.q code.u message.now }
     requires row_len { length row.now ≡ point_count code.q }
-    requires q_in_bounds { point_count code.q ≤ length sent.old }
+    requires room { point_count code.q ≤ length sent.old }
     ensures value { result ≡ count_of code.q code.u message.now row.now }
     ensures sent_after { sent.new ≡ row_numbers code.q code.u message.now ++ drop (point_count code.q) sent.old }
 {

@@ -1,16 +1,15 @@
 -- A message of 20 bytes is unpacked, encoded and packed: what each step hands to the next.
 -- Assumes nothing.
-use mathlib.Core.Path.{◌≡◌, refl, sym, ap, ◌∙◌}
+use mathlib.Core.Path.{◌≡◌, sym, ap, ◌∙◌}
 use mathlib.Core.Bool.{false}
 use mathlib.Core.List.{List, ◌++◌, append-nil}
 use Prim.Native.Nat.{ℕ, ◌*◌, ◌≤◌}
 use native.Mathlib.Omega.{arith}
 use lib.ListN.{length, take, drop, drop_of_length-le}
 use Rattle.symbols.specs.Rule.{any_beyond}
-use Rattle.curve.specs.declared.Code.{Code}
-use Rattle.curve.specs.Codes.{point_count}
+use Rattle.curve.specs.Codes.{Code, point_count}
 use Rattle.curve.specs.Answers.{code_of}
-use Rattle.curve.specs.Given.{Valid, Message}
+use Rattle.curve.specs.Given.{Message}
 use Rattle.encoder.specs.Encoding.{row_numbers}
 use Rattle.encoder.proofs.RowSymbols.{length-row_numbers, row-symbols}
 use Rattle.packing.specs.Packing.{unpacked, packed}
@@ -23,18 +22,18 @@ use Rattle.laying.proofs.TapeCode.{known-tape, a-code, points-are, dimension-is}
 -- what was unpacked can be encoded
 pub encodable : (code : Code) (original message row : List ℕ) → code ≡ code_of tape_q tape_u → message ≡ unpacked original message_length
     → any_beyond tape_q message ≡ false → length row ≡ 64
-    → Valid code × Message code.q code.u message × (point_count code.q ≤ length row)
+    → record { message : Message code.q code.u message; room : point_count code.q ≤ length row }
 encodable code original message row tape is symbolic long =
-    rw tape (
-      record { known = known-tape; accepted = a-code; n-is = refl; k-is = refl; reach-is = refl },
-      record {
+    rw tape
+    (record {
+      message = record {
         known = known-tape;
         code = a-code;
         whole = ap length is ∙ length-unpacked original message_length ∙ sym dimension-is;
         all-symbols = symbolic;
-      },
-      omega (arith, points-are),
-    )
+      };
+      room = omega (arith, points-are);
+    })
 
 module _ (code : Code) (message symbols old : List ℕ) (tape : code ≡ code_of tape_q tape_u)
     (wrote : symbols ≡ row_numbers code.q code.u message ++ drop (point_count code.q) old) (long : length old ≡ 64) where

@@ -2,7 +2,7 @@
 ghost use Rattle.std.specs.Prelude.{◌≡◌, List, ◌++◌, ℕ, ◌+◌, ◌-◌, ◌<◌, ◌≤◌, length, drop, OnOk};
 ghost use Rattle.symbols.specs.Rule.{Known, symbols};
 ghost use Rattle.curve.specs.Codes.{dimension};
-ghost use Rattle.curve.specs.Given.{Valid, Received};
+ghost use Rattle.curve.specs.Given.{Received};
 ghost use Rattle.published.specs.Start.{step_count};
 ghost use Rattle.published.specs.Picture.{area_size};
 ghost use Rattle.published.specs.Meaning.{Meaning};
@@ -33,9 +33,8 @@ fn note_vote(q: usize, u: usize, done: usize, left: usize, vote: u8, votes: &mut
 
 // Does the first steps, from the start on.
 fn take_steps(products: &Products, code: Code, steps: usize, work: &mut [u8], votes: &mut [u8])
-    requires valid { Valid code × (steps ≤ step_count code.q) }
-    requires same_q { products.now.q ≡ code.q }
-    requires q_in_bounds { (area_size code.q ≤ length work.old) × (dimension code.q code.u ≤ length votes.old) }
+    requires steps { (steps ≤ step_count code.q) × (products.now.q ≡ code.q) }
+    requires room { (area_size code.q ≤ length work.old) × (dimension code.q code.u ≤ length votes.old) }
     ensures { (row rest rest' : List ℕ) → work.old ≡ picture_after code.q code.u row 0 ++ rest
         → votes.old ≡ votes_after code.q code.u row 0 ++ rest'
         → (work.new ≡ picture_after code.q code.u row steps ++ rest) × (votes.new ≡ votes_after code.q code.u row steps ++ rest') }
@@ -52,8 +51,8 @@ fn take_steps(products: &Products, code: Code, steps: usize, work: &mut [u8], vo
 
 // The first steps on a full row of symbols: the picture into the work area, the votes into the first k places of `votes`.
 pub fn advance(code: Code, steps: usize, row: &[u8], work: &mut [u8], votes: &mut [u8])
-    requires valid { Valid code × Received code.q code.u row.now × (steps ≤ step_count code.q) }
-    requires q_in_bounds { (area_size code.q ≤ length work.old) × (dimension code.q code.u ≤ length votes.old) }
+    requires row { Received code.q code.u row.now × (steps ≤ step_count code.q) }
+    requires room { (area_size code.q ≤ length work.old) × (dimension code.q code.u ≤ length votes.old) }
     ensures work_left { work.new ≡ picture_after code.q code.u row.now steps ++ drop (area_size code.q) work.old }
     ensures votes_left { votes.new ≡ votes_after code.q code.u row.now steps ++ drop (dimension code.q code.u) votes.old }
 {
@@ -71,7 +70,6 @@ fn stop_under(
     work: &mut [u8],
     output: &mut [u8],
 ) -> Result<(), Refusal>
-    requires { Valid code }
     ensures answer { result ≡ stop_answer code.q code.u steps row.now work.old output.old }
     ensures work { work.new ≡ stop_work code.q code.u steps row.now work.old output.old }
     ensures output { output.new ≡ stop_output code.q code.u steps row.now work.old output.old }

@@ -1,7 +1,7 @@
 // All lines of a row, or the line of its refusal.
 ghost use Rattle.std.specs.Prelude.{◌+◌, ◌≤◌, length};
 ghost use Rattle.lines.specs.Text.{Wrote};
-ghost use Rattle.curve.specs.Given.{Valid, Received};
+ghost use Rattle.curve.specs.Given.{Received};
 ghost use Rattle.published.specs.Picture.{area_size};
 ghost use Rattle.workarea.specs.Area.{Starts, cells_of};
 ghost use Rattle.steps.specs.Stop.{state_after};
@@ -32,21 +32,22 @@ fn put_decoded(out: &mut [u8], at: usize, answered: Result<usize, Refusal>, mess
 
 // The last line: what decoding the row answers.
 fn put_last(out: &mut [u8], at: usize, code: Code, row: &[u8], work: &mut [u8]) -> usize
-    requires valid { Valid code × Received code.q code.u row.now }
-    requires q_in_bounds { (area_size code.q ≤ length work.old) × (at + last_size code.q ≤ length out.old) }
+    requires received { Received code.q code.u row.now }
+    requires room { (area_size code.q ≤ length work.old) × (at + last_size code.q ≤ length out.old) }
     ensures { Wrote out.old at
         (last_line (decoded code.q code.u row.now) (voted code.q code.u row.now)) out.new result }
 {
     let mut message = [0u8; MOST_POINTS];
     let mut corrected = [0u8; MOST_POINTS];
     let answered = decode_row(code, row, work, &mut message, &mut corrected);
-    put_decoded(out, at, answered, &message[..code.k])
+    let k = code.k;
+    put_decoded(out, at, answered, &message[..k])
 }
 
 // All lines of a full row whose start stands in the work area.
 fn put_lines(out: &mut [u8], code: Code, row: &[u8], work: &mut [u8]) -> usize
-    requires valid { Valid code × Received code.q code.u row.now }
-    requires q_in_bounds { (area_size code.q ≤ length work.old) × (trace_size code.q ≤ length out.old) }
+    requires received { Received code.q code.u row.now }
+    requires room { (area_size code.q ≤ length work.old) × (trace_size code.q ≤ length out.old) }
     requires starts { Starts code.q work.old (cells_of code.q (state_after code.q code.u row.now 0).polys) }
     ensures { Wrote out.old 0 (row_lines code.q code.u row.now) out.new result }
 {
@@ -57,7 +58,7 @@ fn put_lines(out: &mut [u8], code: Code, row: &[u8], work: &mut [u8]) -> usize
 
 // The answer under a code: refused with 4 or 5, or all lines, from the start that no step makes.
 fn answer_under(out: &mut [u8], code: Code, row: &[u8]) -> usize
-    requires { Valid code × (longest_trace ≤ length out.old) }
+    requires { longest_trace ≤ length out.old }
     ensures { Wrote out.old 0 (answer_lines code.q code.u row.now) out.new result }
 {
     if row.len() != code.n {

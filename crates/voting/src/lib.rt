@@ -5,14 +5,14 @@ ghost use Rattle.std.specs.Prelude.{◌≡◌, ◌++◌, ◌≤◌, length, drop
 ghost use Rattle.curve.specs.Codes.{dimension};
 ghost use Rattle.published.specs.Picture.{area_size};
 ghost use Rattle.voting.specs.Voting.{cleared, voted};
-ghost use Rattle.curve.specs.Given.{Valid, Received};
+ghost use Rattle.curve.specs.Given.{Received};
 
 use curve::Code;
 
 // Puts the votes after all steps in the first k places of `votes`, and leaves its part of the work area zero.
 pub fn vote_all(code: Code, row: &[u8], work: &mut [u8], votes: &mut [u8])
-    requires valid { Valid code × Received code.q code.u row.now }
-    requires q_in_bounds { (area_size code.q ≤ length work.old) × (dimension code.q code.u ≤ length votes.old) }
+    requires received { Received code.q code.u row.now }
+    requires room { (area_size code.q ≤ length work.old) × (dimension code.q code.u ≤ length votes.old) }
     ensures work_left { work.new ≡ cleared (area_size code.q) work.old }
     ensures votes_left { votes.new ≡ voted code.q code.u row.now ++ drop (dimension code.q code.u) votes.old }
 {

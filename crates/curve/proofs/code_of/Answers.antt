@@ -49,6 +49,16 @@ dimension-requires c = coded (goal.at.dimension-requires c).Else-not-is_code
 pub reach-requires : goal.reach-requires
 reach-requires c = coded (goal.at.reach-requires c).Else-not-is_code
 
+pub invariant_of-result : goal.invariant_of-result
+invariant_of-result c =
+    record {
+      known = test_known _ (known (goal.at.invariant_of-result c).Else-not-is_known);
+      accepted = code (goal.at.invariant_of-result c).Else-not-is_code;
+      n-is = c.point_count.ensures;
+      k-is = c.dimension.ensures;
+      reach-is = c.reach.ensures;
+    }
+
 pub returns : goal.returns
 unfolding named code_checks
 returns c =

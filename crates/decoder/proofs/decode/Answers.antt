@@ -1,8 +1,8 @@
 -- `decoder::decode` meets its contract: what q and u name decides. Assumes nothing.
 use mathlib.Core.Path.{sym, subst, ◌∙◌}
 use Rattle.std.proofs.lemmas.Result.{err_from_is_err_and}
-use Rattle.curve.specs.declared.Code.{Code}
-use Rattle.curve.proofs.Naming.{IsNamed, named-refused, named-code, named-valid}
+use Rattle.curve.specs.Codes.{Code}
+use Rattle.curve.proofs.Naming.{IsNamed, named-refused, named-code}
 use Rattle.decoder.proofs.DecodeChecks.{refused-by-code}
 use Rattle.decoder.proofs.Promises.{Promised, refusing, told}
 use Rattle.decoder.proofs.decode.Goals as goal
@@ -11,9 +11,6 @@ use Rattle.decoder.proofs.decode.Goals.{In_ok-code}
 -- the code that was named
 found : (c : In_ok-code) → IsNamed c.args.q c.args.u c.in_ok-code.code
 found c = named-code _ _ (sym c.code_of.ensures ∙ c.in_ok-code.was)
-
-pub decode_under-requires : goal.decode_under-requires
-decode_under-requires c = named-valid _ _ (found (goal.at.decode_under-requires c).In_ok-code)
 
 pub returns : goal.returns
 returns c =

@@ -2,8 +2,8 @@
 use mathlib.Core.Path.{sym, ap, ◌∙◌}
 use Rattle.std.specs.Prelude.{Err}
 use Rattle.std.proofs.lemmas.Result.{err_from_is_err_and}
-use Rattle.curve.specs.declared.Code.{Code}
-use Rattle.curve.proofs.Naming.{named-refused, named-code, IsNamed, named-valid}
+use Rattle.curve.specs.Codes.{Code}
+use Rattle.curve.proofs.Naming.{named-refused, named-code, IsNamed}
 use Rattle.encoder.specs.Encoding.{encode_answer, encode_output}
 use Rattle.encoder.proofs.EncodeChecks.{refused-by-code}
 use Rattle.encoder.proofs.encode.Goals as goal
@@ -12,9 +12,6 @@ use Rattle.encoder.proofs.encode.Goals.{In_ok-code}
 -- the code that was named
 found : (c : In_ok-code) → IsNamed c.args.q c.args.u c.in_ok-code.code
 found c = named-code _ _ (sym c.code_of.ensures ∙ c.in_ok-code.was)
-
-pub encode_under-requires : goal.encode_under-requires
-encode_under-requires c = named-valid _ _ (found (goal.at.encode_under-requires c).In_ok-code)
 
 pub returns : goal.returns
 returns c =

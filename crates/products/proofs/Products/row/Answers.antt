@@ -1,8 +1,18 @@
--- `products::Products::row` meets its contract: the table holds the row. Assumes nothing.
-use Rattle.symbols.proofs.TableRules.{row-in}
+-- `products::Products::row` meets its contract: the part of the table is the row. Assumes nothing.
+use mathlib.Core.Path.{◌∙◌}
+use Rattle.symbols.specs.Rule.{size}
+use Rattle.symbols.proofs.Bytes.{known-other}
+use Rattle.symbols.proofs.TableRules.{row-of-list}
 use Rattle.products.proofs.Products.row.Goals as goal
 
-pub returns : goal.returns
-returns c =
-    let products = c.args.self.now in
-    rw products.complete (row-in products.q products.known c.args.a)
+pub returns-then-self-eq4 : goal.returns-then-self-eq4
+unfolding size
+returns-then-self-eq4 c =
+    let e = c.if-self-eq4.true in
+    c.part_of.ensures ∙ (rw e (row-of-list 4 c.args.a _ (rw e at c.args.self.now.complete)))
+
+pub returns-else-self-eq4 : goal.returns-else-self-eq4
+unfolding size
+returns-else-self-eq4 c =
+    let e = known-other _ c.args.self.now.known c.if-self-eq4.false in
+    c.part_of-else-self-eq4.ensures ∙ (rw e (row-of-list 2 c.args.a _ (rw e at c.args.self.now.complete)))

@@ -2,8 +2,8 @@
 use mathlib.Core.Path.{sym, subst, ◌∙◌}
 use native.Mathlib.Omega.{arith}
 use Rattle.lines.specs.Text.{Wrote}
-use Rattle.curve.specs.declared.Code.{Code}
-use Rattle.curve.proofs.Naming.{IsNamed, named-refused, named-code, named-valid}
+use Rattle.curve.specs.Codes.{Code}
+use Rattle.curve.proofs.Naming.{IsNamed, named-refused, named-code}
 use Rattle.trace.specs.Trace.{answer}
 use Rattle.trace.proofs.Checked.{refused-by-code}
 use Rattle.trace.proofs.Lengths.{length-refused}
@@ -13,9 +13,6 @@ use Rattle.trace.proofs.rows.answer.Goals.{In-Ok}
 -- the code that was named
 found : (c : In-Ok) → IsNamed c.args.q c.args.u c.in-Ok.code
 found c = named-code _ _ (sym c.code_of.ensures ∙ c.in-Ok.is)
-
-pub answer_under-requires : goal.answer_under-requires
-answer_under-requires c = (named-valid _ _ (found (goal.at.answer_under-requires c).In-Ok), c.requires)
 
 pub put_refusal-requires : goal.put_refusal-requires
 put_refusal-requires c = omega (arith, c.requires, length-refused c.in-Err.why)

@@ -1,11 +1,21 @@
 -- `trace::rows::put_lines` meets its contract: the first line, those of the steps and the last one follow each other, and there
 -- is room for each.
 -- Assumes nothing.
-use mathlib.Core.List.{[], ◌∷◌}
-use Prim.Native.Nat.{◌+◌, ◌*◌, ◌≤◌}
+use mathlib.Core.Path.{sym, subst}
+use mathlib.Core.List.{List, [], ◌∷◌}
+use Prim.Native.Nat.{ℕ, ◌+◌, ◌*◌, ◌≤◌}
 use native.Mathlib.Omega.{arith}
 use lib.ListN.{length}
+use Rattle.lines.specs.Text.{Wrote}
+use Rattle.curve.specs.Codes.{Code}
+use Rattle.curve.specs.Given.{Received}
 use Rattle.published.specs.Start.{step_count}
+use Rattle.published.specs.Picture.{area_size}
+use Rattle.workarea.specs.Area.{Starts, cells_of}
+use Rattle.steps.specs.Stop.{state_after}
+use Rattle.voting.specs.Voting.{voted}
+use Rattle.decoder.specs.Decoding.{decoded}
+use Rattle.trace.specs.Trace.{last_line, row_lines}
 use Rattle.request.specs.Request.{line}
 use Rattle.stepline.specs.StepLine.{step_size}
 use Rattle.steplines.proofs.Lengths.{length-steps}
@@ -13,44 +23,84 @@ use Rattle.trace.specs.Size.{trace_size, last_size}
 use Rattle.trace.proofs.Lengths.{length-first-line}
 use Rattle.trace.proofs.Whole.{wrote-all}
 use Rattle.trace.proofs.rows.put_lines.Goals as goal
-use Rattle.trace.proofs.rows.put_lines.Goals.{After-put_code-first, Start}
+use Rattle.trace.proofs.rows.put_lines.Goals.{After-code, After-put_code-first}
+
+-- what is given and lent
+abbrev Lent : (out row work : List ℕ) (q u : ℕ) → Type 0
+Lent out row work q u =
+    Received q u row × (area_size q ≤ length work) × (trace_size q ≤ length out)
+    × Starts q work (cells_of q (state_after q u row 0).polys)
+
+lent : (c : After-code) → Lent c.args.out.now c.args.row.now c.args.work.now c.code.inside.q c.code.inside.u
+lent c =
+    subst (λ (code : Code). Lent c.args.out.now c.args.row.now c.args.work.now code.q code.u) (sym c.code.view_is)
+    (c.requires.received, c.requires.room.0, c.requires.room.1, c.requires.starts)
 
 -- the first line fits
-first_fits : (c : Start) → 0 + length (line (c.args.code.q ∷ c.args.code.u ∷ [])) ≤ length c.args.out.now
+first_fits : (c : After-code) → 0 + length (line (c.code.inside.q ∷ c.code.inside.u ∷ [])) ≤ length c.args.out.now
 unfolding trace_size
-first_fits c = omega (arith, length-first-line c.args.code.q c.args.code.u c.requires.valid.1.code, c.requires.q_in_bounds.1)
+first_fits c = let lent = lent c in omega (arith, length-first-line c.code.inside.q c.code.inside.u lent.0.code, lent.2)
 
 -- and after it the steps' lines and the last one do
-rest-fits : (c : After-put_code-first)
-    → let a = c.args in
-    c.put_code-first.result + step_count a.code.q * step_size a.code.q + last_size a.code.q ≤ length c.put_code-first.new.buffer
+rest-fits : (c : After-put_code-first) → Lent c.args.out.now c.args.row.now c.args.work.now c.code.inside.q c.code.inside.u
+    → let q = c.code.inside.q in
+    c.put_code-first.result + step_count q * step_size q + last_size q ≤ length c.put_code-first.new.buffer
 unfolding trace_size
-rest-fits c =
+rest-fits c lent =
     omega (
       arith,
-      length-first-line c.args.code.q c.args.code.u c.requires.valid.1.code,
+      length-first-line c.code.inside.q c.code.inside.u lent.0.code,
       c.put_code-first.ensures.place,
       c.put_code-first.auto.buffer,
-      c.requires.q_in_bounds.1,
+      lent.2,
     )
 
 pub put_code-first-requires : goal.put_code-first-requires
-put_code-first-requires c = first_fits (goal.at.put_code-first-requires c).Start
+put_code-first-requires c = first_fits (goal.at.put_code-first-requires c).After-code
 
 pub put_steps-steps-requires-clause-known : goal.put_steps-steps-requires-clause-known
-put_steps-steps-requires-clause-known c = let known = c.requires.valid.0.known in
-    (known, c.requires.q_in_bounds.0, omega (arith, rest-fits (goal.at.put_steps-steps-requires-clause-known c).After-put_code-first))
+put_steps-steps-requires-clause-known c =
+    let at = goal.at.put_steps-steps-requires-clause-known c in
+    let lent = lent at.After-code in
+    (c.code.invariant.known, lent.1, omega (arith, rest-fits at.After-put_code-first lent))
 
-pub put_last-requires-clause-q_in_bounds : goal.put_last-requires-clause-q_in_bounds
-put_last-requires-clause-q_in_bounds c = let a = c.args in
-    let lines = c.put_steps-steps.ensures a.row.now c.requires.starts in (
-      omega (arith, c.put_steps-steps.auto.work, c.requires.q_in_bounds.0),
-      omega (arith, rest-fits (goal.at.put_last-requires-clause-q_in_bounds c).After-put_code-first, length-steps a.code.q a.code.u a.row.now (step_count a.code.q), lines.place, c.put_steps-steps.auto.out),
+pub put_steps-steps-requires-clause-started : goal.put_steps-steps-requires-clause-started
+put_steps-steps-requires-clause-started c =
+    record { row = c.args.row.now; shows = (lent (goal.at.put_steps-steps-requires-clause-started c).After-code).3 }
+
+pub put_last-requires-clause-room : goal.put_last-requires-clause-room
+put_last-requires-clause-room c =
+    let at = goal.at.put_last-requires-clause-room c in
+    let lent = lent at.After-code in
+    let q = c.code.inside.q in
+    let steps = c.put_steps-steps in
+    let lines = steps.ensures c.args.row.now lent.3 in
+    subst (λ (code : Code). (area_size code.q ≤ length steps.new.work) × (steps.result + last_size code.q ≤ length steps.new.out)) c.code.view_is (
+      omega (arith, steps.auto.work, lent.1),
+      omega (
+        arith,
+        rest-fits at.After-put_code-first lent,
+        length-steps q c.code.inside.u c.args.row.now (step_count q),
+        lines.place,
+        steps.auto.out,
+      ),
     )
+
+-- the last line makes the lines of a row whole
+abbrev Ends : (out row steps out' : List ℕ) (at end : ℕ) → Code → Type 0
+Ends out row steps out' at end code =
+    Wrote steps at (last_line (decoded code.q code.u row) (voted code.q code.u row)) out' end → Wrote out 0 (row_lines code.q code.u row) out' end
 
 pub returns : goal.returns
 returns c =
-    let a = c.args in
-    wrote-all a.code.q a.code.u a.row.now (first_fits (goal.at.returns c).Start)
-    (omega (arith, rest-fits (goal.at.returns c).After-put_code-first, length-steps a.code.q a.code.u a.row.now (step_count a.code.q))) c.put_code-first.ensures
-    (c.put_steps-steps.ensures a.row.now c.requires.starts) c.put_last.ensures
+    let at = goal.at.returns c in
+    let lent = lent at.After-code in
+    let q = c.code.inside.q in
+    let u = c.code.inside.u in
+    let row = c.args.row.now in
+    let steps = c.put_steps-steps in
+    let last = c.put_last in
+    subst (Ends c.args.out.now row steps.new.out last.new.out steps.result last.result) c.code.view_is
+    (wrote-all q u row (first_fits at.After-code) (omega (arith, rest-fits at.After-put_code-first lent, length-steps q u row (step_count q)))
+    c.put_code-first.ensures (steps.ensures row lent.3))
+    last.ensures
