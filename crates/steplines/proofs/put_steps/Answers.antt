@@ -5,7 +5,8 @@ use Prim.Native.Nat.{ℕ, ◌+◌, ◌*◌, ◌≤◌, ◌<◌}
 use native.Mathlib.Nat.{mul-le-mul_right}
 use native.Mathlib.Omega.{arith}
 use lib.ListN.{length}
-use Rattle.lines.proofs.Writing.{wrote_nothing}
+use Rattle.lines.specs.Page.{Room}
+use Rattle.lines.proofs.Pages.{put_nothing}
 use Rattle.published.specs.Start.{step_count}
 use Rattle.workarea.proofs.Sizes.{area_of}
 use Rattle.workarea.proofs.HeightLaws.{start-many}
@@ -19,21 +20,21 @@ use Rattle.steplines.proofs.put_steps.Goals.{After-take_step-vote, At-loop-t}
 
 -- the lines of t steps fit, and one more where one more is due
 lines_fit : (c : At-loop-t) (row : List ℕ)
-    → c.args.at + length (step_lines c.args.q c.args.u row c.loop-t.t) ≤ length c.args.out.now
+    → Room c.args.page.now (step_lines c.args.q c.args.u row c.loop-t.t)
 lines_fit c row =
     let a = c.args in
     let few : c.loop-t.t ≤ step_count a.q = omega (arith, c.loop-t.invariant.0, c.step_count-count.ensures) in
     omega (arith, length-steps a.q a.u row c.loop-t.t, mul-le-mul_right (step_size a.q) few, c.requires.known.2)
 
 line-fits : (c : At-loop-t) → c.loop-t.t < step_count c.args.q
-    → c.loop-t.next + step_size c.args.q ≤ length c.loop-t.out
+    → c.loop-t.page.end + step_size c.args.q ≤ length c.loop-t.page.out.now
 line-fits c more =
     let a = c.args in
     let begun = c.requires.started in
-    let reached = c.loop-t.invariant.5 begun.row begun.shows in
+    let reached = c.loop-t.invariant.4 begun.row begun.shows in
     let lines = length-steps a.q a.u begun.row c.loop-t.t in
     let room : (c.loop-t.t + 1) * step_size a.q ≤ step_count a.q * step_size a.q = mul-le-mul_right (step_size a.q) (omega arith) in
-    omega (arith, lines, room, reached.lines.place, c.loop-t.invariant.1, c.requires.known.2)
+    omega (arith, lines, room, reached.lines.wrote.place, reached.lines.same_length, c.requires.known.2)
 
 -- the step that is taken is one of those that there are
 step-due : (c : After-take_step-vote)
@@ -49,37 +50,36 @@ loop-t-init c =
     let heights = c.start_heights-heights.ensures in (
       omega arith,
       refl,
-      refl,
       start-many a.q c.start_heights-heights.result known heights,
       heights.long,
       λ row shows. record {
         shows = shows;
-        lines = wrote_nothing a.out.now a.at;
+        lines = put_nothing a.page.now;
         below = below-start a.q known c.start_heights-heights.result heights a.u row;
       },
     )
 
-pub put_step_line-next-requires-clause-area : goal.put_step_line-next-requires-clause-area
-put_step_line-next-requires-clause-area c = let a = c.args in
+pub put_step_line-requires-clause-area : goal.put_step_line-requires-clause-area
+put_step_line-requires-clause-area c = let a = c.args in
     let begun = c.requires.started in
     let weight = weight_is a.q c.loop-t.t c.step_count-count.ensures in
-    let after = next-state a.q a.u begun.row c.loop-t.t _ (step-due (goal.at.put_step_line-next-requires-clause-area c).After-take_step-vote) weight (c.loop-t.invariant.5 begun.row begun.shows)
+    let after = next-state a.q a.u begun.row c.loop-t.t _ (step-due (goal.at.put_step_line-requires-clause-area c).After-take_step-vote) weight (c.loop-t.invariant.4 begun.row begun.shows)
     c.take_step-vote.ensures.stepped in
-    area_of c.requires.known.0 (omega (arith, c.requires.known.1, c.loop-t.invariant.2, c.take_step-vote.auto.work))
+    area_of c.requires.known.0 (omega (arith, c.requires.known.1, c.loop-t.invariant.1, c.take_step-vote.auto.work))
 
-pub put_step_line-next-requires-clause-s_bound : goal.put_step_line-next-requires-clause-s_bound
-put_step_line-next-requires-clause-s_bound c = let a = c.args in
+pub put_step_line-requires-clause-s_bound : goal.put_step_line-requires-clause-s_bound
+put_step_line-requires-clause-s_bound c = let a = c.args in
     let begun = c.requires.started in
     let weight = weight_is a.q c.loop-t.t c.step_count-count.ensures in
-    let after = next-state a.q a.u begun.row c.loop-t.t _ (step-due (goal.at.put_step_line-next-requires-clause-s_bound c).After-take_step-vote) weight (c.loop-t.invariant.5 begun.row begun.shows)
+    let after = next-state a.q a.u begun.row c.loop-t.t _ (step-due (goal.at.put_step_line-requires-clause-s_bound c).After-take_step-vote) weight (c.loop-t.invariant.4 begun.row begun.shows)
     c.take_step-vote.ensures.stepped in
-    (omega (arith, weight), line-fits (goal.at.put_step_line-next-requires-clause-s_bound c).At-loop-t (step-due (goal.at.put_step_line-next-requires-clause-s_bound c).After-take_step-vote))
+    (omega (arith, weight), line-fits (goal.at.put_step_line-requires-clause-s_bound c).At-loop-t (step-due (goal.at.put_step_line-requires-clause-s_bound c).After-take_step-vote))
 
-pub put_step_line-next-requires-clause-shown : goal.put_step_line-next-requires-clause-shown
-put_step_line-next-requires-clause-shown c = let a = c.args in
+pub put_step_line-requires-clause-shown : goal.put_step_line-requires-clause-shown
+put_step_line-requires-clause-shown c = let a = c.args in
     let begun = c.requires.started in
     let weight = weight_is a.q c.loop-t.t c.step_count-count.ensures in
-    let after = next-state a.q a.u begun.row c.loop-t.t _ (step-due (goal.at.put_step_line-next-requires-clause-shown c).After-take_step-vote) weight (c.loop-t.invariant.5 begun.row begun.shows)
+    let after = next-state a.q a.u begun.row c.loop-t.t _ (step-due (goal.at.put_step_line-requires-clause-shown c).After-take_step-vote) weight (c.loop-t.invariant.4 begun.row begun.shows)
     c.take_step-vote.ensures.stepped in
     record { state = _; shows = after.0; voted = after.1 }
 
@@ -87,11 +87,10 @@ pub loop-t-preserved : goal.loop-t-preserved
 loop-t-preserved c =
     let a = c.args in (
       omega (arith, c.loop-t-test.true),
-      c.put_step_line-next.auto.out ∙ c.loop-t.invariant.1,
-      c.take_step-vote.auto.work ∙ c.loop-t.invariant.2,
+      c.take_step-vote.auto.work ∙ c.loop-t.invariant.1,
       c.take_step-vote.ensures.heights_left,
-      c.take_step-vote.auto.heights ∙ c.loop-t.invariant.4,
+      c.take_step-vote.auto.heights ∙ c.loop-t.invariant.3,
       λ row shows. reached-more a.q a.u row c.loop-t.t _ (step-due (goal.at.loop-t-preserved c).After-take_step-vote)
-          (weight_is a.q c.loop-t.t c.step_count-count.ensures) (lines_fit (goal.at.loop-t-preserved c).At-loop-t row) (c.loop-t.invariant.5 row shows)
-          c.take_step-vote.ensures.stepped c.put_step_line-next.ensures,
+          (weight_is a.q c.loop-t.t c.step_count-count.ensures) (lines_fit (goal.at.loop-t-preserved c).At-loop-t row) (c.loop-t.invariant.4 row shows)
+          c.take_step-vote.ensures.stepped c.put_step_line.ensures,
     )
