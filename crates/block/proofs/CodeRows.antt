@@ -1,13 +1,12 @@
 -- What is known of a payload that can be written, and the rows of its messages.
 -- Assumes nothing.
 use mathlib.Core.Path.{◌≡◌, ap, ◌∙◌}
-use mathlib.Core.Bool.{true, ◌&&◌, and-eq-true_iff}
+use mathlib.Core.Bool.{true}
 use mathlib.Core.List.{List, []}
-use Prim.Native.Nat.{ℕ, ◌*◌, ◌/◌, ◌%◌, ◌≤◌, ◌<◌}
+use Prim.Native.Nat.{ℕ, ◌*◌, ◌≤◌, ◌<◌}
 use native.Mathlib.Omega.{arith}
-use lib.Dec.{leb, eqb}
 use lib.ListN.{length, get_or}
-use borrow.Author.Tests.{eqb-true, leb-true}
+use Rattle.std.proofs.lemmas.Bool.Decides.{nat_tests}
 use Rattle.lists.proofs.Tables.{length-tab, get_or-tab}
 use Rattle.layout.proofs.Laying.{Symbolic}
 use Rattle.layout.specs.Layout.{message_bytes, most_rows}
@@ -24,14 +23,7 @@ pub record Fills (payload : List ℕ) : Type 0 where
 pub fills : (payload : List ℕ) → is_payload payload ≡ true → Fills payload
 unfolding is_payload rows_filled
 fills payload right =
-    let n = length payload in
-    let tests = (and-eq-true_iff (eqb (n % message_bytes) 0) (leb 1 (n / message_bytes) && leb (n / message_bytes) most_rows)).0 right in
-    let bounds = (and-eq-true_iff (leb 1 (n / message_bytes)) (leb (n / message_bytes) most_rows)).0 tests.1 in
-    record {
-      whole = omega (arith, eqb-true (n % message_bytes) 0 tests.0);
-      some = leb-true 1 (n / message_bytes) bounds.0;
-      most = leb-true (n / message_bytes) most_rows bounds.1;
-    }
+    record { whole = grind (arith, nat_tests); some = grind (arith, nat_tests); most = grind (arith, nat_tests) }
 
 module _ (payload : List ℕ) where
   -- as many rows as are filled

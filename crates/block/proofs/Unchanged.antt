@@ -22,7 +22,8 @@ use Rattle.laying.specs.Laying.{code_row}
 use Rattle.block.specs.Writing.{rows_filled, is_payload, code_rows, block_for}
 use Rattle.block.specs.Untouched.{unchanged, Untouched}
 use Rattle.answers.specs.declared.Record.{Record}
-use Rattle.answers.specs.declared.Verified.TheVariants.{Copied, Refused}
+use Rattle.answers.specs.declared.Verdict.TheVariants.{Copied}
+use Rattle.std.specs.Prelude.{Ok, Err}
 use Rattle.laying.proofs.CodeRow.{message-of}
 use Rattle.taperow.proofs.NearRows.{unchanged-row}
 use Rattle.block.proofs.CodeRows.{fills, rows-count, row_is, rows-symbolic}
@@ -88,7 +89,7 @@ module _ (payload : List ℕ) (right : is_payload payload ≡ true) where
           rows_are = written_row;
           copied =
               λ records work lent.
-              passed Refused _ (written-passes (length records) (length work) lent.enough lent.room) ∙ verdict-is;
+              passed Err _ (written-passes (length records) (length work) lent.enough lent.room) ∙ ap Ok verdict-is;
           recorded =
               λ records work lent.
               passed (λ why. records) _ (written-passes (length records) (length work) lent.enough lent.room)
@@ -97,9 +98,9 @@ module _ (payload : List ℕ) (right : is_payload payload ≡ true) where
 
     -- the same where a record is two bytes
     module _ (records work : List ℕ) (enough : row_count block ≤ length records / 2) (room : area_size tape_q ≤ length work) where
-      pub bytes-copied : verify_bytes_answer block payload records work ≡ Copied 0
+      pub bytes-copied : verify_bytes_answer block payload records work ≡ Ok (Copied 0)
       unfolding verify_bytes_answer byte_checks
-      bytes-copied = passed Refused _ (written-passes (length records / 2) (length work) enough room) ∙ verdict-is
+      bytes-copied = passed Err _ (written-passes (length records / 2) (length work) enough room) ∙ ap Ok verdict-is
 
       pub bytes-recorded : verify_bytes_records block payload records work
           ≡ replicate (2 * row_count block) 0 ++ drop (2 * row_count block) records

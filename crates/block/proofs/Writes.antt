@@ -1,5 +1,5 @@
 -- Writing a block, row by row: what stands in the area after the header and after each row; and what is promised of a call that
--- is refused, and of one that is not.
+-- is not refused.
 -- Assumes nothing.
 use mathlib.Core.Path.{◌≡◌, sym, ap, ap₂, ◌∙◌}
 use mathlib.Core.Logic.{◌⊎◌, inl, inr}
@@ -17,8 +17,7 @@ use Rattle.packing.specs.Packing.{packed}
 use Rattle.layout.specs.Layout.{row_bytes, header_bytes, block_length, header_of}
 use Rattle.layout.proofs.Headers.{behind-header}
 use Rattle.layout.proofs.Laying.{laid-length, laid-header, row-bytes}
-use Rattle.answers.specs.declared.Written.{Written}
-use Rattle.answers.specs.declared.Written.TheVariants.{Length, Refused}
+use Rattle.std.specs.Prelude.{Result, Ok, Err}
 use Rattle.laying.specs.Laying.{code_row}
 use Rattle.block.specs.Writing.{rows_filled, is_payload, code_rows, block_for, write_checks, write_answer, write_block}
 use Rattle.block.specs.Untouched.{Untouched}
@@ -70,51 +69,40 @@ module _ (payload : List ℕ) where
 
 module _ (payload area : List ℕ) where
   -- all that is promised of a call that answers so and leaves this
-  abbrev pub Promised : Written → List ℕ → Type 0
-  Promised answer left =
-      (answer ≡ write_answer payload area)
-      × ((left ≡ write_block payload area) × ((n : ℕ) → answer ≡ Length n → Untouched (take n left) payload))
+  pub record Promised (answer : Result ℕ Refusal) (left : List ℕ) : Type 0 where
+    pub answer-is : answer ≡ write_answer payload area
+    pub left-is : left ≡ write_block payload area
+    pub untouched-is : (n : ℕ) → answer ≡ Ok n → Untouched (take n left) payload
 
-  -- a refusal is told, and nothing is written
-  pub refusing : {why : Refusal} → Refuses (write_checks payload area) why → Promised (Refused why) area
-  unfolding write_answer write_block
-  refusing {why} r = (
-    sym (refused Refused (Length (block_length (rows_filled payload))) r),
-    (sym (refused (λ why. area) (block_for payload ++ drop (block_length (rows_filled payload)) area) r), never),
-  )
-    where
-      never : (n : ℕ) → Refused why ≡ Length n → Untouched (take n area) payload
-      never n same = let z : ◌≡◌ {A = ℕ} 0 1 = cc in absurd (omega arith)
-
-  -- else the block is written, and reads back
+  -- where no check holds the block is written, and reads back
   pub writing : is_payload payload ≡ true → ((i : ℕ) → get_or payload i 0 < 256) → Passes (write_checks payload area)
       → {left : List ℕ} → left ≡ block_for payload ++ drop (block_length (rows_filled payload)) area
-      → Promised (Length (block_length (rows_filled payload))) left
+      → Promised (Ok (block_length (rows_filled payload))) left
   unfolding write_answer write_block
-  writing right bytes p {left} is = (
-    sym (passed Refused (Length (block_length (rows_filled payload))) p),
-    (is ∙ sym (passed (λ why. area) (block_for payload ++ drop (block_length (rows_filled payload)) area) p), back),
-  )
+  writing right bytes p {left} is = record {
+    answer-is = sym (passed Err (Ok (block_length (rows_filled payload))) p);
+    left-is = is ∙ sym (passed (λ why. area) (block_for payload ++ drop (block_length (rows_filled payload)) area) p);
+    untouched-is = back;
+  }
     where
-      back : (n : ℕ) → Length (block_length (rows_filled payload)) ≡ Length n → Untouched (take n left) payload
+      back : (n : ℕ) → ◌≡◌ {A = Result ℕ Refusal} (Ok (block_length (rows_filled payload))) (Ok n) → Untouched (take n left) payload
       back n same =
           let size : block_length (rows_filled payload) ≡ n = cc in
           let first : take n left ≡ block_for payload = ap (take n) is ∙ take_at (block_for payload) _ n (block-length payload ∙ size) in
           rw first (untouched payload right bytes)
 
   -- the length that is told is that of a block, and the area is as long at least
-  pub told-length : (n : ℕ) → write_answer payload area ≡ Length n → (n ≤ 32776) × (n ≤ length area)
+  pub told-length : (n : ℕ) → write_answer payload area ≡ Ok n → (n ≤ 32776) × (n ≤ length area)
   unfolding write_answer write_checks
   told-length n told = go (decide_checks (write_checks payload area))
     where
       go : ((why : Refusal) × Refuses (write_checks payload area) why) ⊎ Passes (write_checks payload area)
           → (n ≤ 32776) × (n ≤ length area)
       go (inl refuses) =
-          let same : Refused refuses.0 ≡ Length n = sym (refused Refused _ refuses.1) ∙ told in
-          let z : ◌≡◌ {A = ℕ} 0 1 = cc in
-          absurd (omega arith)
+          let same : ◌≡◌ {A = Result ℕ Refusal} (Err refuses.0) (Ok n) = sym (refused Err _ refuses.1) ∙ told in
+          cc
       go (inr (clear right (clear room done))) =
-          let same : Length (block_length (rows_filled payload)) ≡ Length n = sym (passed Refused _ (clear right (clear room done))) ∙ told in
+          let same : ◌≡◌ {A = Result ℕ Refusal} (Ok (block_length (rows_filled payload))) (Ok n) = sym (passed Err _ (clear right (clear room done))) ∙ told in
           let size : block_length (rows_filled payload) ≡ n = cc in
           let known = fills payload (not-false _ right) in
           (omega (arith, known.most), omega (arith, ltb-false (length area) (block_length (rows_filled payload)) room))

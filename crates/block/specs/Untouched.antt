@@ -1,13 +1,13 @@
 -- What can be relied on of a block that was written and not touched since. Document 02, Wish 1: verifying it against its payload
 -- answers Copied with total 0.
 -- Assumes nothing.
-use Rattle.std.specs.Prelude.{◌≡◌, true, List, ◌++◌, ℕ, ◌≤◌, ◌<◌, length, drop, replicate}
+use Rattle.std.specs.Prelude.{◌≡◌, true, List, ◌++◌, ℕ, ◌≤◌, ◌<◌, length, drop, replicate, Ok}
 use Rattle.published.specs.Picture.{area_size}
 use Rattle.layout.specs.Layout.{tape_q, row_count, is_block, block_row}
 use Rattle.verifying.specs.Verification.{verify_answer, verify_records}
 use Rattle.laying.specs.Laying.{code_row}
 use Rattle.answers.specs.declared.Record.{Record}
-use Rattle.answers.specs.declared.Verified.TheVariants.{Copied}
+use Rattle.answers.specs.declared.Verdict.TheVariants.{Copied}
 
 -- the record of a row that is equal, with no symbol changed
 abbrev pub unchanged : Record
@@ -23,6 +23,6 @@ pub record Lent (block : List ℕ) (records : List Record) (work : List ℕ) : T
 pub record Untouched (block payload : List ℕ) : Type 0 where
   pub is_block : is_block block ≡ true
   pub rows_are : (r : ℕ) → r < row_count block → block_row block r ≡ code_row payload r
-  pub copied : (records : List Record) (work : List ℕ) → Lent block records work → verify_answer block payload records work ≡ Copied 0
+  pub copied : (records : List Record) (work : List ℕ) → Lent block records work → verify_answer block payload records work ≡ Ok (Copied 0)
   pub recorded : (records : List Record) (work : List ℕ) → Lent block records work
       → verify_records block payload records work ≡ replicate (row_count block) unchanged ++ drop (row_count block) records

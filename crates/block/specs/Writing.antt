@@ -1,6 +1,7 @@
 -- What writing a block answers and leaves, for all inputs. Document 02, Wish 1.
 -- Assumes nothing.
-use Rattle.std.specs.Prelude.{Bool, not, ◌&&◌, List, [], ◌∷◌, ◌++◌, ℕ, ◌*◌, ◌/◌, ◌%◌, leb, eqb, ltb, length, drop}
+use Rattle.std.specs.Prelude.{Bool, not, ◌&&◌, List, [], ◌∷◌, ◌++◌, ℕ, ◌*◌, ◌/◌, ◌%◌, leb, eqb, ltb, length, drop, Result, Ok, Err}
+use Rattle.refusals.specs.declared.Refusal.{Refusal}
 use Rattle.refusals.specs.declared.Refusal.TheVariants.{ShortOutput, WrongPayload}
 use Rattle.refusals.specs.Numbers.{Check, ◌if◌, first_of}
 use Rattle.lists.specs.Tables.{tab, join}
@@ -8,8 +9,6 @@ use Rattle.voting.specs.Voting.{voted}
 use Rattle.packing.specs.Packing.{packed}
 use Rattle.layout.specs.Layout.{tape_q, tape_u, message_bytes, most_rows, row_count, block_length, block_row, block_of}
 use Rattle.laying.specs.Laying.{code_row}
-use Rattle.answers.specs.declared.Written.{Written}
-use Rattle.answers.specs.declared.Written.TheVariants.{Length, Refused}
 
 -- how many rows a payload fills
 unfoldable pub rows_filled : List ℕ → ℕ
@@ -35,8 +34,8 @@ write_checks payload block =
     ∷ []
 
 -- the length of the block that was written
-unfoldable pub write_answer : List ℕ → List ℕ → Written
-write_answer payload block = first_of (write_checks payload block) Refused (Length (block_length (rows_filled payload)))
+unfoldable pub write_answer : List ℕ → List ℕ → Result ℕ Refusal
+write_answer payload block = first_of (write_checks payload block) Err (Ok (block_length (rows_filled payload)))
 
 -- the payload's block, and behind it what was there; a refusal writes nothing
 unfoldable pub write_block : List ℕ → List ℕ → List ℕ

@@ -17,14 +17,12 @@ fn main(rt: HostRuntime) -> io::Result<()> {
         return println!(rt; "usage: blockcheck BLOCK PAYLOAD");
     }
     let mut block = [0u8; 32777];
-    let block_end = files::load(&rt, 1, &mut block);
-    if block_end == 32777 {
+    let Some(block_end) = files::load(&rt, 1, &mut block) else {
         return Ok(());
-    }
+    };
     let mut payload = [0u8; 20481];
-    let payload_end = files::load(&rt, 2, &mut payload);
-    if payload_end == 20481 {
+    let Some(payload_end) = files::load(&rt, 2, &mut payload) else {
         return Ok(());
-    }
+    };
     report(&rt, &block[..block_end], &payload[..payload_end])
 }

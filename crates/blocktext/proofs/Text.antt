@@ -1,12 +1,11 @@
 -- The whole text: which rows have lines, and that rows and verdict together are what is to be printed.
 -- Assumes nothing.
-use mathlib.Core.Path.{◌≡◌, refl, sym, ◌∙◌}
+use mathlib.Core.Path.{◌≡◌, sym, ◌∙◌}
 use mathlib.Core.Logic.{⊎_elim}
-use mathlib.Core.Bool.{Bool, true, false}
-use mathlib.Core.List.{List, [], ◌∷◌, ◌++◌}
-use Prim.Native.Nat.{ℕ, suc, ◌+◌, ◌/◌, ◌≤◌}
+use Rattle.std.specs.Prelude.{Result, Ok, Err}
+use mathlib.Core.List.{List, ◌++◌}
+use Prim.Native.Nat.{ℕ, ◌/◌, ◌≤◌}
 use native.Mathlib.Omega.{arith}
-use lib.Dec.{eqb}
 use lib.ListN.{length}
 use Rattle.lists.specs.Tables.{join_from, join}
 use Rattle.lines.specs.Text.{Wrote}
@@ -18,44 +17,13 @@ use Rattle.layout.specs.Layout.{row_count}
 use Rattle.taperow.specs.Reading.{row_record}
 use Rattle.verifying.specs.Verification.{verdict_from, all_records}
 use Rattle.verifying.specs.AsBytes.{byte_checks, verify_bytes_answer, verify_bytes_records}
-use Rattle.answers.specs.declared.Record.{Record}
-use Rattle.verdict.proofs.Verdicts.{by_state}
 use Rattle.verdict.proofs.Start.{fit}
-use Rattle.answers.specs.declared.Verified.{Verified}
-use Rattle.answers.specs.declared.Verified.TheVariants.{Copied, Differs, Unreadable, Refused}
+use Rattle.answers.specs.declared.Verdict.{Verdict}
+use Rattle.report.specs.Report.{refuse_line}
 use Rattle.rowlines.specs.RowLines.{line_at}
 use Rattle.blocktext.specs.Report.{record_lines, verdict_line, rows_told}
 use Rattle.rowlines.proofs.Joined.{join-same}
 use Rattle.blocktext.proofs.RecordBytes.{state-of, count_of}
-
--- a refusal has no rows told
-pub told_none : (why : Refusal) (payload : ℕ) → 0 ≡ rows_told (Refused why) payload
-unfolding rows_told
-told_none why payload = refl
-
--- any other verdict has them all
-pub told-others : (v : Verified) (payload : ℕ) → ((why : Refusal) → v ≡ Refused why → ⊥) → payload / 20 ≡ rows_told v payload
-unfolding rows_told
-told-others (Copied total) payload done = refl
-told-others (Differs r) payload done = refl
-told-others (Unreadable r) payload done = refl
-told-others (Refused why) payload done = absurd (done why refl)
-
--- a verdict on rows is no refusal: one row, by its two tests
-told-by : (p r : ℕ) (zero one : Bool) (equal : Verified) → rows_told equal p ≡ p / 20
-    → rows_told (by_state zero one r equal) p ≡ p / 20
-unfolding rows_told
-told-by p r true one equal told = told
-told-by p r false true equal told = refl
-told-by p r false false equal told = refl
-
--- over any rows
-told-verdict : (p r total : ℕ) (xs : List Record) → rows_told (verdict_from r total xs) p ≡ p / 20
-unfolding verdict_from rows_told
-told-verdict p r total [] = refl
-told-verdict p r total (x ∷ xs) =
-    told-by p r (eqb x.state 0) (eqb x.state 1) (verdict_from (suc r) (total + x.count) xs)
-    (told-verdict p (suc r) (total + x.count) xs)
 
 -- what verifying left where nothing is refused, and where something is
 module _ (block payload blank work : List ℕ) where
@@ -63,7 +31,7 @@ module _ (block payload blank work : List ℕ) where
   checks = byte_checks block payload blank work
 
   -- the verdict on the rows
-  abbrev verdict : Verified
+  abbrev verdict : Verdict
   verdict = verdict_from 0 0 (all_records block payload)
 
   -- the payload says how many rows there are
@@ -71,19 +39,17 @@ module _ (block payload blank work : List ℕ) where
   unfolding byte_checks
   rows_are passing = omega (arith, (fit block payload (length blank / 2) (length work) passing).messages)
 
-  module _ (v : Verified) (records : List ℕ) (answered : v ≡ verify_bytes_answer block payload blank work)
+  module _ (v : Result Verdict Refusal) (records : List ℕ) (answered : v ≡ verify_bytes_answer block payload blank work)
       (left : records ≡ verify_bytes_records block payload blank work) where
     -- a refusal has no lines of rows
     told-refused : (why : Refusal) → Refuses checks why → rows_told v (length payload) ≡ 0
     unfolding verify_bytes_answer rows_told
-    told-refused why refusing = rw (answered, refused Refused verdict refusing)
+    told-refused why refusing = rw (answered, refused Err (Ok verdict) refusing)
 
     -- otherwise every row has its turn
     told-passed : Passes checks → rows_told v (length payload) ≡ row_count block
-    unfolding verify_bytes_answer
-    told-passed passing =
-        rw (answered, passed Refused verdict passing)
-        (told-verdict (length payload) 0 0 (all_records block payload) ∙ rows_are passing)
+    unfolding verify_bytes_answer rows_told
+    told-passed passing = rw (answered, passed Err (Ok verdict) passing) (rows_are passing)
 
     -- never more than 1,024 rows
     pub few-told : rows_told v (length payload) ≤ 1024
@@ -104,17 +70,16 @@ module _ (block payload blank work : List ℕ) where
 
     -- rows and verdict together are the text
     pub text-is : join (rows_told v (length payload)) (line_at records) ++ verdict_line v
-        ≡ first_of checks (λ why. verdict_line (Refused why))
-        (record_lines (row_record block payload) (row_count block) ++ verdict_line verdict)
-    unfolding verify_bytes_answer join join_from
+        ≡ first_of checks refuse_line (record_lines (row_record block payload) (row_count block) ++ verdict_line (Ok verdict))
+    unfolding verify_bytes_answer verdict_line join join_from
     text-is =
         ⊎_elim
         (λ refusing.
-        rw (told-refused refusing.0 refusing.1, answered, refused Refused verdict refusing.1)
-        (sym (refused (λ why. verdict_line (Refused why)) _ refusing.1)))
+        rw (told-refused refusing.0 refusing.1, answered, refused Err (Ok verdict) refusing.1)
+        (sym (refused refuse_line _ refusing.1)))
         (λ passing.
-        rw (told-passed passing, lines_same passing, answered, passed Refused verdict passing)
-        (sym (passed (λ why. verdict_line (Refused why)) _ passing)))
+        rw (told-passed passing, lines_same passing, answered, passed Err (Ok verdict) passing)
+        (sym (passed refuse_line _ passing)))
         (decide_checks checks)
 
 -- two texts, one after the other, are the text that they make

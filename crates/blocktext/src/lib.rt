@@ -6,34 +6,32 @@ ghost use Rattle.io.specs.Counts.{IsPrefixLen};
 ghost use Rattle.lines.specs.Text.{Wrote};
 ghost use Rattle.blocktext.specs.Report.{verdict_line, rows_told, check_text};
 
-use answers::Verified;
+use answers::Verdict;
 use layout::{MESSAGE_BYTES, TAPE_AREA};
-use refusals::number_of;
+use refusals::Refusal;
+use report::put_refusal;
 use rowlines::{put_line, put_rows};
 use verifying::verify_bytes;
 
 // The last line.
-fn put_verdict(out: &mut [u8], at: usize, verdict: Verified) -> usize
+fn put_verdict(out: &mut [u8], at: usize, verdict: Result<Verdict, Refusal>) -> usize
     requires { at + 32 ≤ length out.old }
     ensures wrote { Wrote out.old at (verdict_line verdict) out.new result }
     ensures upper_bound { result ≤ at + 32 }
 {
     match verdict {
-        Verified::Copied(total) => put_line(out, at, b"copied ", total),
-        Verified::Differs(r) => put_line(out, at, b"differs ", r),
-        Verified::Unreadable(r) => put_line(out, at, b"unreadable ", r),
-        Verified::Refused(why) => put_line(out, at, b"refuse ", number_of(why) as usize),
+        Ok(Verdict::Copied(total)) => put_line(out, at, b"copied ", total),
+        Ok(Verdict::Differs(r)) => put_line(out, at, b"differs ", r),
+        Ok(Verdict::Unreadable(r)) => put_line(out, at, b"unreadable ", r),
+        Err(why) => put_refusal(out, at, why),
     }
 }
 
 // How many rows there are lines of: the payload has 20 bytes a row where nothing is refused.
-fn rows_told(verdict: Verified, payload: usize) -> usize
+fn rows_told(verdict: Result<Verdict, Refusal>, payload: usize) -> usize
     ensures { result ≡ rows_told verdict payload }
 {
-    let Verified::Refused(_) = verdict else {
-        return payload / MESSAGE_BYTES;
-    };
-    0
+    verdict.map_or(0, |_| payload / MESSAGE_BYTES)
 }
 
 // All lines for a block and its payload; answers how many bytes they have.
@@ -50,7 +48,7 @@ pub fn check_text(block: &[u8], payload: &[u8], out: &mut [u8; 32768]) -> usize
 }
 
 // The line of a verdict alone; answers how many bytes it has.
-pub fn verdict_text(verdict: Verified, out: &mut [u8; 32]) -> usize
+pub fn verdict_text(verdict: Result<Verdict, Refusal>, out: &mut [u8; 32]) -> usize
     ensures text { Wrote out.old 0 (verdict_line verdict) out.new result }
     ensures within { IsPrefixLen result out.new }
 {

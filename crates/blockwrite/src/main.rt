@@ -18,10 +18,9 @@ fn main(rt: HostRuntime) -> io::Result<()> {
         return println!(rt; "usage: blockwrite PAYLOAD BLOCK");
     }
     let mut payload = [0u8; 20481];
-    let end = files::load(&rt, 1, &mut payload);
-    if end == 20481 {
+    let Some(end) = files::load(&rt, 1, &mut payload) else {
         return Ok(());
-    }
+    };
     let mut area = [0u8; 32776];
     let written = block::write(&payload[..end], &mut area);
     if let Written::Length(length) = written {

@@ -31,6 +31,7 @@ unfolding monomial_of
 missed q s e = go (gap q s) refl e
   where
     go : (b : Bool) → gap q s ≡ b
-        → ◌≡◌ {A = Option Powers} (elim b [ true ↦ None | false ↦ Some (record { x = x_power q s; y = y_power q s }) ]) None → gap q s ≡ true
+        → ◌≡◌ {A = Option Powers} (elim b [ true ↦ None | false ↦ Some (record { x = x_power q s; y = y_power q s }) ]) None
+        → gap q s ≡ true
     go true t e = t
     go false t e = let z : ◌≡◌ {A = ℕ} 0 1 = cc in absurd (omega arith)

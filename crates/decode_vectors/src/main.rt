@@ -4,16 +4,17 @@
 // `cargo run --example decode_vectors -- rows` and `-- answers`.
 #![tactic(auto)]
 
-use answers::Decoded;
 use files::read_full;
+use refusals::Refusal;
 use std::io;
+use textlines::each_line;
 use vectors::{UNTOUCHED, read_number, read_symbols, spell_symbols, zeros_first};
 
 // The answer as a word and a number.
-fn tell(rt: &impl Print, answer: Decoded) -> io::Result<()> {
+fn tell(rt: &impl Print, answer: Result<usize, Refusal>) -> io::Result<()> {
     match answer {
-        Decoded::Accepted(count) => print!(rt; " accept {count}"),
-        Decoded::Refused(why) => print!(rt; " refuse {}", refusals::number_of(why)),
+        Ok(count) => print!(rt; " accept {count}"),
+        Err(why) => print!(rt; " refuse {why}"),
     }
 }
 
@@ -51,17 +52,6 @@ fn decode_line(rt: &impl Print, line: &mut [u8]) -> io::Result<()> {
     decode_row(rt, q, u, &line[5..end], &mut work)
 }
 
-// All lines of a text.
-fn decode_lines(rt: &impl Print, text: &mut [u8]) -> io::Result<()> {
-    let mut at = 0;
-    while at < text.len() {
-        let end = textlines::line_end(text, at);
-        decode_line(rt, &mut text[at..end])?;
-        at = end;
-    }
-    Ok(())
-}
-
 // The zero row with a work area of this size.
 fn try_work(rt: &impl Print, size: usize) -> io::Result<()> {
     let mut work = [UNTOUCHED; 1480];
@@ -75,7 +65,7 @@ fn try_work(rt: &impl Print, size: usize) -> io::Result<()> {
 fn main(rt: HostRuntime) -> io::Result<()> {
     let mut text = [0u8; 65536];
     let got = read_full(&mut rt.stdin(), &mut text)?;
-    decode_lines(&rt, &mut text[..got])?;
+    each_line(&mut text[..got], |line| decode_line(&rt, line))?;
     try_work(&rt, 1472)?;
     try_work(&rt, 1471)
 }

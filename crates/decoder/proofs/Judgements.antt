@@ -10,11 +10,11 @@ use lib.Dec.{leb}
 use lib.ListN.{length, take, drop, length-take}
 use lib.Seq.{take_all}
 use borrow.Author.Tests.{le-leb, lt-leb}
+use Rattle.std.specs.Prelude.{Result, Ok, Err}
+use Rattle.refusals.specs.declared.Refusal.{Refusal}
 use Rattle.refusals.specs.declared.Refusal.TheVariants.{BeyondReach}
 use Rattle.curve.specs.Codes.{point_count, dimension, reach}
 use Rattle.encoder.specs.Encoding.{row_numbers}
-use Rattle.answers.specs.declared.Decoded.{Decoded}
-use Rattle.answers.specs.declared.Decoded.TheVariants.{Accepted, Refused}
 use Rattle.judging.specs.Judging.{count_of}
 use Rattle.decoder.specs.Decoding.{judgement, decoded, if_accepted}
 use Rattle.voting.specs.Voting.{voted}
@@ -24,8 +24,8 @@ use Rattle.encoder.proofs.RowSymbols.{length-row_numbers, row_first}
 use Rattle.voting.proofs.Votes.{voted-count, voted-symbols, voted-first}
 
 -- what a count within reach, or beyond, is answered with
-verdict : ℕ → Bool → Decoded
-verdict count b = elim b [ true ↦ Accepted count | false ↦ Refused BeyondReach ]
+verdict : ℕ → Bool → Result ℕ Refusal
+verdict count b = elim b [ true ↦ Ok count | false ↦ Err BeyondReach ]
 
 module _ (q u : ℕ) (message row : List ℕ) where
   -- the judgement is the test of the count against the reach
@@ -34,12 +34,12 @@ module _ (q u : ℕ) (message row : List ℕ) where
   judged-by-reach = refl
 
   -- so a count within reach is accepted
-  pub accepted-is : count_of q u message row ≤ reach q u → judgement q u message row ≡ Accepted (count_of q u message row)
+  pub accepted-is : count_of q u message row ≤ reach q u → judgement q u message row ≡ Ok (count_of q u message row)
   unfolding verdict
   accepted-is h = judged-by-reach ∙ ap (verdict (count_of q u message row)) (le-leb (count_of q u message row) (reach q u) h)
 
   -- and one beyond it is refused
-  refused-is : reach q u < count_of q u message row → judgement q u message row ≡ Refused BeyondReach
+  refused-is : reach q u < count_of q u message row → judgement q u message row ≡ Err BeyondReach
   unfolding verdict
   refused-is h = judged-by-reach ∙ ap (verdict (count_of q u message row)) (lt-leb (count_of q u message row) (reach q u) h)
 
@@ -104,14 +104,14 @@ module _ {q u : ℕ} {row votes sent : List ℕ} {k n most count : ℕ} (J : Jud
   sent-fit = omega (arith, sent-count, length-take n sent)
 
   -- beyond reach
-  pub beyond : most < count → decoded q u row ≡ Refused BeyondReach
+  pub beyond : most < count → decoded q u row ≡ Err BeyondReach
   unfolding decoded
   beyond h = refused-is q u (voted q u row) row (omega (arith, J.most-is, counted))
 
   -- within reach
-  pub within : count ≤ most → decoded q u row ≡ Accepted count
+  pub within : count ≤ most → decoded q u row ≡ Ok count
   unfolding decoded
-  within h = accepted-is q u (voted q u row) row (omega (arith, J.most-is, counted)) ∙ ap Accepted (sym counted)
+  within h = accepted-is q u (voted q u row) row (omega (arith, J.most-is, counted)) ∙ ap Ok (sym counted)
 
   -- beyond reach the message output stays
   pub message-kept : (old : List ℕ) → most < count → old ≡ message_after q u row old

@@ -7,20 +7,20 @@ use mathlib.Core.List.{List, [], ◌∷◌}
 use Prim.Native.Nat.{ℕ}
 use lib.Dec.{leb}
 use lib.ListN.{length}
+use Rattle.std.specs.Prelude.{Result, Ok, Err}
+use Rattle.refusals.specs.declared.Refusal.{Refusal}
 use Rattle.refusals.specs.declared.Refusal.TheVariants.{BeyondReach}
 use Rattle.refusals.specs.Numbers.{Told, Check, refused_by, first_of}
 use Rattle.refusals.proofs.Checks.{made_of}
 use Rattle.curve.specs.Codes.{reach}
 use Rattle.judging.specs.Judging.{count_of}
 use Rattle.voting.specs.Voting.{voted}
-use Rattle.answers.specs.declared.Decoded.{Decoded}
-use Rattle.answers.specs.declared.Decoded.TheVariants.{Accepted, Refused}
 use Rattle.decoder.specs.Decoding.{judgement, decoded, decode_checks, decode_answer}
-use Rattle.answers.specs.InNumbers.{decoded_as}
+use Rattle.answers.specs.InNumbers.{count_as}
 use Rattle.decoder.proofs.Promises.{Promised}
 
 -- two results of decoding
-pub decode-settled : (q u : ℕ) (row work message corrected : List ℕ) {answer answer' : Decoded} {work₁ work₂ message₁ message₂ corrected₁ corrected₂ : List ℕ}
+pub decode-settled : (q u : ℕ) (row work message corrected : List ℕ) {answer answer' : Result ℕ Refusal} {work₁ work₂ message₁ message₂ corrected₁ corrected₂ : List ℕ}
     → Promised q u row work message corrected answer work₁ message₁ corrected₁ → Promised q u row work message corrected answer' work₂ message₂ corrected₂
     → (answer ≡ answer') × (work₁ ≡ work₂) × (message₁ ≡ message₂) × (corrected₁ ≡ corrected₂)
 decode-settled q u row work message corrected P P' =
@@ -41,11 +41,11 @@ counted_as q u row =
     cond (leb count (reach q u)) (inr (count ∷ [])) (inl 8)
 
 -- the answer in numbers: that of the first check that holds, else what the row gives
-pub decode-told : (q u : ℕ) (row work message corrected : List ℕ) {answer : Decoded} → answer ≡ decode_answer q u row work message corrected
-    → decoded_as answer ≡ first_of (decode_checks q u row work message corrected) refused_by (counted_as q u row)
+pub decode-told : (q u : ℕ) (row work message corrected : List ℕ) {answer : Result ℕ Refusal} → answer ≡ decode_answer q u row work message corrected
+    → count_as answer ≡ first_of (decode_checks q u row work message corrected) refused_by (counted_as q u row)
 unfolding decode_answer decoded judgement
 decode-told q u row work message corrected e =
-    ap decoded_as e ∙ made_of decoded_as Refused (decoded q u row) checks ∙ ap (first_of checks refused_by) (judged (leb count (reach q u)))
+    ap count_as e ∙ made_of count_as Err (decoded q u row) checks ∙ ap (first_of checks refused_by) (judged (leb count (reach q u)))
   where
     checks : List Check
     checks = decode_checks q u row work message corrected
@@ -53,6 +53,6 @@ decode-told q u row work message corrected e =
     count : ℕ
     count = count_of q u (voted q u row) row
 
-    judged : (within : Bool) → decoded_as (elim within [ true ↦ Accepted count | false ↦ Refused BeyondReach ]) ≡ cond within (inr (count ∷ [])) (inl 8)
+    judged : (within : Bool) → count_as (elim within [ true ↦ Ok count | false ↦ Err BeyondReach ]) ≡ cond within (inr (count ∷ [])) (inl 8)
     judged true = refl
     judged false = refl

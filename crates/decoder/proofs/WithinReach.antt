@@ -10,6 +10,7 @@ use native.Mathlib.Decide.{dec_le, ℕ_discrete}
 use lib.Dec.{eqb}
 use lib.ListN.{length, length-map}
 use borrow.Author.Tests.{eq-eqb, ne_eqb}
+use Rattle.std.specs.Prelude.{Ok, Err}
 use Rattle.refusals.specs.declared.Refusal.TheVariants.{BeyondReach}
 use Rattle.algebra.specs.Symbols.{Symbols, same}
 use Rattle.algebra.specs.Totals.{total}
@@ -29,7 +30,6 @@ use Rattle.withinreach.specs.Read.{differs, voted_message, apart, Within}
 use Rattle.withinreach.proofs.Read.{read-within}
 use Rattle.judging.specs.Judging.{differing, count_of}
 use Rattle.voting.specs.Voting.{voted}
-use Rattle.answers.specs.declared.Decoded.TheVariants.{Accepted, Refused}
 use Rattle.decoder.specs.Decoding.{decoded}
 use Rattle.decoder.proofs.Judgements.{accepted-is}
 
@@ -74,12 +74,12 @@ module _ (q u : ℕ) (sent row : List ℕ) (m : Message q u sent) (input : Recei
         ∙ numbers-of-symbols q m.known sent m.all-symbols
 
     -- and it is accepted, with the number of places that differ
-    pub decoded-within : decoded q u row ≡ Accepted (count_of q u sent row)
+    pub decoded-within : decoded q u row ≡ Ok (count_of q u sent row)
     unfolding decoded
     decoded-within = rw voted-within (accepted-is q u sent row near)
 
   -- where decoding gives 8 the message is not within reach
-  pub none_within : decoded q u row ≡ Refused BeyondReach → reach q u < count_of q u sent row
+  pub none_within : decoded q u row ≡ Err BeyondReach → reach q u < count_of q u sent row
   none_within refused = elim (dec_le (count_of q u sent row) (reach q u)) [
     | yes near ↦
         let accepted = decoded-within near in

@@ -1,28 +1,27 @@
 -- What decoding answers and leaves, for all inputs. Document 01, "The decoder's steps" (its end), "Lent areas", "Refusal
 -- numbers".
 -- Assumes nothing.
-use Rattle.std.specs.Prelude.{true, false, ◌||◌, List, [], ◌∷◌, ◌++◌, ℕ, leb, ltb, length, drop}
+use Rattle.std.specs.Prelude.{true, false, ◌||◌, List, [], ◌∷◌, ◌++◌, ℕ, leb, ltb, length, drop, Result, Ok, Err}
+use Rattle.refusals.specs.declared.Refusal.{Refusal}
 use Rattle.refusals.specs.declared.Refusal.TheVariants.{ShortWork, ShortOutput, BeyondReach}
 use Rattle.refusals.specs.Numbers.{Check, ◌if◌, first_of}
 use Rattle.curve.specs.Codes.{point_count, dimension, reach}
 use Rattle.curve.specs.Answers.{code_checks, symbol_checks}
 use Rattle.encoder.specs.Encoding.{row_numbers}
 use Rattle.published.specs.Picture.{area_size}
-use Rattle.answers.specs.declared.Decoded.{Decoded}
-use Rattle.answers.specs.declared.Decoded.TheVariants.{Accepted, Refused}
 use Rattle.judging.specs.Judging.{count_of}
 use Rattle.voting.specs.Voting.{voted, cleared}
 
 -- accepted if the count is no more than the reach τ
-unfoldable pub judgement : ℕ → ℕ → List ℕ → List ℕ → Decoded
+unfoldable pub judgement : ℕ → ℕ → List ℕ → List ℕ → Result ℕ Refusal
 judgement q u message row =
     elim (leb (count_of q u message row) (reach q u)) [
-      | true ↦ Accepted (count_of q u message row)
-      | false ↦ Refused BeyondReach
+      | true ↦ Ok (count_of q u message row)
+      | false ↦ Err BeyondReach
     ]
 
 -- what a full row of symbols decodes to
-unfoldable pub decoded : ℕ → ℕ → List ℕ → Decoded
+unfoldable pub decoded : ℕ → ℕ → List ℕ → Result ℕ Refusal
 decoded q u row = judgement q u (voted q u row) row
 
 -- 1, 2, 4, 5, 6, 7; then `decoded` may give 8
@@ -35,9 +34,9 @@ decode_checks q u row work message corrected =
     ∷ []))
 
 -- a refusal, or an acceptance and its count
-unfoldable pub decode_answer : ℕ → ℕ → List ℕ → List ℕ → List ℕ → List ℕ → Decoded
+unfoldable pub decode_answer : ℕ → ℕ → List ℕ → List ℕ → List ℕ → List ℕ → Result ℕ Refusal
 decode_answer q u row work message corrected =
-    first_of (decode_checks q u row work message corrected) Refused (decoded q u row)
+    first_of (decode_checks q u row work message corrected) Err (decoded q u row)
 
 -- once the votes are taken, the decoder's part of the work area is zero, with 8 too
 unfoldable pub decode_work : ℕ → ℕ → List ℕ → List ℕ → List ℕ → List ℕ → List ℕ
@@ -45,9 +44,9 @@ decode_work q u row work message corrected =
     first_of (decode_checks q u row work message corrected) (λ why. work) (cleared (area_size q) work)
 
 -- what an acceptance writes, and a refusal leaves
-unfoldable pub if_accepted : Decoded → List ℕ → List ℕ → List ℕ
-if_accepted (Accepted count) written old = written
-if_accepted (Refused why) written old = old
+unfoldable pub if_accepted : Result ℕ Refusal → List ℕ → List ℕ → List ℕ
+if_accepted (Ok count) written old = written
+if_accepted (Err why) written old = old
 
 -- the first k places of the message's output
 unfoldable pub decode_message : ℕ → ℕ → List ℕ → List ℕ → List ℕ → List ℕ → List ℕ

@@ -10,8 +10,7 @@ ghost use Rattle.decoder.specs.FullRows.{Room, message_after, corrected_after};
 ghost use Rattle.decoder.specs.Undamaged.{Undamaged};
 ghost use Rattle.decoder.specs.WithinReach.{WithinReach};
 
-pub use answers::Decoded;
-use curve::{Code, Named};
+use curve::Code;
 use refusals::Refusal;
 use symbols::MOST_POINTS;
 
@@ -22,7 +21,7 @@ pub fn decode_row(
     work: &mut [u8],
     message: &mut [u8],
     corrected: &mut [u8],
-) -> Decoded
+) -> Result<usize, Refusal>
     requires valid { Valid code × Received code.q code.u row.now }
     requires room { Room code.q code.u work.old message.old corrected.old }
     ensures value { result ≡ decoded code.q code.u row.now }
@@ -37,11 +36,11 @@ pub fn decode_row(
     let mut sent = [0u8; MOST_POINTS];
     let count = judging::judge(code, &votes[..k], row, &mut sent);
     if code.reach < count {
-        return Decoded::Refused(Refusal::BeyondReach);
+        return Err(Refusal::BeyondReach);
     }
     message[..k].copy_from_slice(&votes[..k]);
     corrected[..n].copy_from_slice(&sent[..n]);
-    Decoded::Accepted(count)
+    Ok(count)
 }
 
 // Decoding under a code: refusals 4, 5, 6 and 7 in this order, then what the row decodes to.
@@ -51,9 +50,9 @@ fn decode_under(
     work: &mut [u8],
     message: &mut [u8],
     corrected: &mut [u8],
-) -> Decoded
+) -> Result<usize, Refusal>
     requires { Valid code }
-    ensures value { result ≡ decode_answer code.q code.u row.now work.old message.old corrected.old }
+    ensures answered { result ≡ decode_answer code.q code.u row.now work.old message.old corrected.old }
     ensures work_left { work.new ≡ decode_work code.q code.u row.now work.old message.old corrected.old }
     ensures message_left { message.new
         ≡ decode_message code.q code.u row.now work.old message.old corrected.old }
@@ -61,19 +60,16 @@ fn decode_under(
         ≡ decode_corrected code.q code.u row.now work.old message.old corrected.old }
 {
     if row.len() != code.n {
-        return Decoded::Refused(Refusal::WrongLength);
+        return Err(Refusal::WrongLength);
     }
     if !symbols::all_symbols(code.q, row) {
-        return Decoded::Refused(Refusal::NoSymbol);
+        return Err(Refusal::NoSymbol);
     }
     if work.len() < workarea::area_size(code.q) {
-        return Decoded::Refused(Refusal::ShortWork);
+        return Err(Refusal::ShortWork);
     }
-    if message.len() < code.k {
-        return Decoded::Refused(Refusal::ShortOutput);
-    }
-    if corrected.len() < code.n {
-        return Decoded::Refused(Refusal::ShortOutput);
+    if message.len() < code.k || corrected.len() < code.n {
+        return Err(Refusal::ShortOutput);
     }
     decode_row(code, row, work, message, corrected)
 }
@@ -86,7 +82,7 @@ pub fn decode(
     work: &mut [u8],
     message: &mut [u8],
     corrected: &mut [u8],
-) -> Decoded
+) -> Result<usize, Refusal>
     ensures answered { result ≡ decode_answer q u row.now work.old message.old corrected.old }
     ensures work_left { work.new ≡ decode_work q u row.now work.old message.old corrected.old }
     ensures message_left { message.new
@@ -98,8 +94,6 @@ pub fn decode(
     ensures within_reach { WithinReach q u row.now work.old message.old corrected.old
         result message.new corrected.new }
 {
-    match curve::code_of(q, u) {
-        Named::Code(code) => decode_under(code, row, work, message, corrected),
-        Named::Refused(why) => Decoded::Refused(why),
-    }
+    let code = curve::code_of(q, u)?;
+    decode_under(code, row, work, message, corrected)
 }

@@ -3,14 +3,14 @@
 // samples::Random::seeded(45) of tests/reference draws, and the rows are what curve::Code::encode there makes of them.
 #![tactic(auto)]
 
-use answers::Encoded;
+use refusals::Refusal;
 use std::io;
 
 // The answer as a word, with a number for a refusal.
-fn tell(rt: &impl Print, answer: Encoded) -> io::Result<()> {
+fn tell(rt: &impl Print, answer: Result<(), Refusal>) -> io::Result<()> {
     match answer {
-        Encoded::Done => println!(rt; " done"),
-        Encoded::Refused(why) => println!(rt; " refuse {}", refusals::number_of(why)),
+        Ok(()) => println!(rt; " done"),
+        Err(why) => println!(rt; " refuse {why}"),
     }
 }
 

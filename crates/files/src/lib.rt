@@ -2,7 +2,7 @@
 // in a line on standard output.
 #![tactic(auto)]
 
-ghost use Rattle.std.specs.Prelude.{◌≡◌, IfOk, IfSome, length, take};
+ghost use Rattle.std.specs.Prelude.{◌≡◌, ◌<◌, IfOk, IfSome, length, take};
 ghost use Rattle.std.specs.Io.KnownBytes.{Consumes};
 ghost use Rattle.io.specs.Counts.{IsPrefixLen};
 
@@ -19,22 +19,15 @@ const NAME_SIZE: usize = 4096;
 
 // How many words the program was started with, its own name among them.
 pub fn word_count(rt: &impl Env) -> usize {
-    for i in 0..usize::MAX {
-        if let Err(FillError::NotPresent) = rt.arg(i, &mut []) {
-            return i;
-        }
-    }
-    usize::MAX
+    (0..usize::MAX)
+        .find(|&i| matches!(rt.arg(i, &mut []), Err(FillError::NotPresent)))
+        .unwrap_or(usize::MAX)
 }
 
-// Puts an argument at the start of a buffer and answers its length, or 0 where there is none or it is longer than a name may be.
-fn argument(rt: &impl Env, i: usize, name: &mut [u8; NAME_SIZE]) -> usize
-    ensures { IsPrefixLen result name.new }
-{
-    match rt.arg(i, name) {
-        Ok(length) => length,
-        Err(_) => 0,
-    }
+// Puts an argument at the start of an area and answers it there: none where there is none or it is longer than a name may be.
+fn argument<'a>(rt: &impl Env, i: usize, area: &'a mut [u8; NAME_SIZE]) -> Option<&'a [u8]> {
+    let length = rt.arg(i, area).ok()?;
+    Some(&area[..length])
 }
 
 // What is wrong with a file, and its name. There is no other place to tell that this could not be told.
@@ -52,6 +45,7 @@ pub fn read_full<R: Read>(from: &mut R, buffer: &mut [u8]) -> io::Result<usize>
         (λ text. take n buffer.new ≡ take (length buffer.new) text)) }
 {
     let mut done = 0;
+    // No `for`, since a read advances the count by as many bytes as it gave.
     while done < buffer.len() {
         let n = from.read(&mut buffer[done..])?;
         if n == 0 {
@@ -69,29 +63,22 @@ fn open<R: Files>(rt: &R, name: &[u8]) -> Option<R::File> {
 }
 
 // Reads the file that an argument names and answers how many bytes it has. A buffer has one place more than the longest file,
-// so a full one is no file to go on with: what is wrong was told.
-pub fn load<R: Env + Files + Print>(rt: &R, i: usize, buffer: &mut [u8]) -> usize
-    ensures { IsPrefixLen result buffer.new }
+// so a full one is no file to go on with. Where there is none, what is wrong was told.
+pub fn load<R: Env + Files + Print>(rt: &R, i: usize, buffer: &mut [u8]) -> Option<usize>
+    ensures { IfSome result (λ n. n < length buffer.new) }
 {
-    let mut name = [0u8; NAME_SIZE];
-    let length = argument(rt, i, &mut name);
-    let name = &name[..length];
+    let mut area = [0u8; NAME_SIZE];
+    let name = argument(rt, i, &mut area).unwrap_or(b"");
     let Some(mut file) = open(rt, name) else {
         tell(rt, b"cannot open ", name);
-        return buffer.len();
+        return None;
     };
     match read_full(&mut file, buffer) {
-        Ok(got) => {
-            if got == buffer.len() {
-                tell(rt, b"too long ", name);
-            }
-            got
-        }
-        Err(_) => {
-            tell(rt, b"cannot read ", name);
-            buffer.len()
-        }
+        Ok(got) if got < buffer.len() => return Some(got),
+        Ok(_) => tell(rt, b"too long ", name),
+        Err(_) => tell(rt, b"cannot read ", name),
     }
+    None
 }
 
 // Eight letters that two runs do not share.
@@ -104,16 +91,19 @@ fn letters(rt: &impl RandomSource) -> [u8; 8] {
     letters
 }
 
-// A name in the same folder for a file that is not whole yet; an empty name where that would be too long.
-fn name_beside(name: &[u8], letters: [u8; 8], beside: &mut [u8; NAME_SIZE]) -> usize
-    ensures { IsPrefixLen result beside.new }
-{
+// A name in the same folder for a file that is not whole yet, put at the start of an area; none where it would be too long.
+fn name_beside<'a>(
+    name: &[u8],
+    letters: [u8; 8],
+    area: &'a mut [u8; NAME_SIZE],
+) -> Option<&'a [u8]> {
     if 4000 < name.len() {
-        return 0;
+        return None;
     }
-    let own = put_word(beside, 0, name);
-    let part = put_word(beside, own, b".part-");
-    put_word(beside, part, &letters)
+    let own = put_word(area, 0, name);
+    let part = put_word(area, own, b".part-");
+    let end = put_word(area, part, &letters);
+    Some(&area[..end])
 }
 
 // Writes all bytes to a new file and waits until they have reached their device.
@@ -135,21 +125,23 @@ fn replace<R: Files>(rt: &R, name: &str, beside: &str, bytes: &[u8]) -> io::Resu
     replaced
 }
 
+// Makes the file of a name hold these bytes, if it can. A name that is no text names no file that std can open.
+fn save_as<R: Files + RandomSource>(rt: &R, name: &[u8], bytes: &[u8]) -> Option<()> {
+    let mut area = [0u8; NAME_SIZE];
+    let beside = name_beside(name, letters(rt), &mut area)?;
+    let name = str::from_utf8(name).ok()?;
+    let beside = str::from_utf8(beside).ok()?;
+    replace(rt, name, beside, bytes).ok()
+}
+
 // Makes the file that an argument names hold these bytes. They are written beside it and the file is renamed, so that no part of
 // them ever stands under its name; where that fails, what stood there stays, and what is wrong was told.
 pub fn save<R: Env + Files + Print + RandomSource>(rt: &R, i: usize, bytes: &[u8]) -> bool {
-    let mut name = [0u8; NAME_SIZE];
-    let length = argument(rt, i, &mut name);
-    let name = &name[..length];
-    let mut beside = [0u8; NAME_SIZE];
-    let end = name_beside(name, letters(rt), &mut beside);
-    if let Ok(text) = str::from_utf8(name) {
-        if let Ok(text_beside) = str::from_utf8(&beside[..end]) {
-            if replace(rt, text, text_beside, bytes).is_ok() {
-                return true;
-            }
-        }
+    let mut area = [0u8; NAME_SIZE];
+    let name = argument(rt, i, &mut area).unwrap_or(b"");
+    let saved = save_as(rt, name, bytes).is_some();
+    if !saved {
+        tell(rt, b"cannot write ", name);
     }
-    tell(rt, b"cannot write ", name);
-    false
+    saved
 }

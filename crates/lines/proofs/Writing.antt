@@ -81,7 +81,8 @@ wrote-length {l} {m} {a} {at} {next} fits done = ap length done.buffer ∙ writt
 pub room-first : (at : ℕ) (a b : List ℕ) {n : ℕ} → at + length (a ++ b) ≤ n → at + length a ≤ n
 room-first at a b fits = omega (arith, length-append a b)
 
-pub room_after : {l m a : List ℕ} {at next : ℕ} (b : List ℕ) → at + length (a ++ b) ≤ length l → Wrote l at a m next → next + length b ≤ length m
+pub room_after : {l m a : List ℕ} {at next : ℕ} (b : List ℕ) → at + length (a ++ b) ≤ length l → Wrote l at a m next
+    → next + length b ≤ length m
 room_after {l} {m} {a} {at} {next} b fits done =
     omega (arith, length-append a b, done.place, wrote-length (room-first at a b fits) done)
 

@@ -31,8 +31,8 @@ unfolding refuse_line ascii
 length-refuse why = simp length-append (omega (arith, length_digits 1 (refusal_number why) (refusal-small why)))
 
 -- an acceptance's line takes ten bytes, its count and its message
-pub length-accept : (most_count most_symbol count : ℕ) (message : List ℕ) → count ≤ most_count → ((i : ℕ) → get_or message i 0 ≤ most_symbol)
-    → length (accept_line count message) ≤ 10 + length (digits most_count) + length message * suc (length (digits most_symbol))
+pub length-accept : (most_count most_symbol count : ℕ) (message : List ℕ) → count ≤ most_count
+    → ((i : ℕ) → get_or message i 0 ≤ most_symbol) → length (accept_line count message) ≤ 10 + length (digits most_count) + length message * suc (length (digits most_symbol))
 unfolding accept_line ascii
 length-accept most_count most_symbol count message few all =
     simp length-append (omega (arith, digits-widen count most_count few, length-spaced most_symbol message all))

@@ -18,7 +18,7 @@ use Rattle.symbols.proofs.FieldLaws.{laws-of}
 use Rattle.published.specs.Start.{width, upper, lower, of_table, vanishing, one, nothing, negated, start_part}
 use Rattle.published.proofs.Reading.{row-part, row-power}
 use Rattle.published.proofs.StartLeads.{start_g-upper, start_g-lower, start_f-upper, start_f-lower}
-use Rattle.substitution.specs.Products.{Apart, function_of, low_function_of, plus_product, product_added, upper_of, lower_of}
+use Rattle.substitution.specs.Products.{function_of, low_function_of, plus_product, product_added, upper_of, lower_of}
 use Rattle.workarea.specs.declared.area.Row.{Row}
 use Rattle.workarea.specs.Area.{Multiplies, Cells}
 use Rattle.startarea.specs.StartArea.{begun, multiple_added}
@@ -34,18 +34,6 @@ each_row q P up low r hr =
     (λ (l : r < q). let e : 0 + r ≡ r = omega arith in rw e at (up r l))
     (λ (l : q ≤ r). let e : q + (r - q) ≡ r = omega arith in rw e at (low (r - q) (omega arith)))
     (lt-or-ge r q)
-
--- the same part of two polynomials of a kind
-pub multiple-apart : (q first row i : ℕ) → first ≤ q → row ≤ q → 0 < i → i < q
-    → Apart q (record { polynomial = first + i; row = row }) (record { polynomial = first; row = row })
-multiple-apart q first row i hf hr some hi =
-    record {
-      to-polynomial = omega arith;
-      to_row = hr;
-      from-polynomial = omega arith;
-      from_row = hr;
-      rows = λ j k hj hk e z. omega arith;
-    }
 
 module _ (q : ℕ) (known : Known q) where
   infixl 65 ◌⊕◌

@@ -87,8 +87,8 @@ row_read q S before now r d so_far one =
     ∙ ap (λ (k : ℕ). set (put before 0 r (row_degree q S)) k (row_degree q S r)) (sym place) ∙ put-more before 0 r (row_degree q S)
 
 -- a step's line from its pieces
-pub line-is : (q u s : ℕ) (state : State (symbols q) q) {voted : Bool} {vote : ℕ} {told : Option ℕ} {read : List ℕ} → told ≡ then_some voted vote
-    → voted ≡ is_voted q u s → vote ≡ vote_at q s state → read ≡ degrees q state.polys
+pub line-is : (q u s : ℕ) (state : State (symbols q) q) {voted : Bool} {vote : ℕ} {told : Option ℕ} {read : List ℕ}
+    → told ≡ then_some voted vote → voted ≡ is_voted q u s → vote ≡ vote_at q s state → read ≡ degrees q state.polys
     → step_text s told read ≡ step_line q u s state
 unfolding step_line
 line-is q u s state is a b c = rw (is, a, b, c)

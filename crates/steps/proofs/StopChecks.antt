@@ -1,44 +1,63 @@
--- What the stop service gives and leaves when a check is the first to hold, and when none holds.
+-- What the stop service gives and leaves when a check is the first to hold, and when none holds; what is left has its meaning.
 -- Assumes nothing.
-use mathlib.Core.Path.{◌≡◌, sym}
+use mathlib.Core.Path.{◌≡◌, sym, ◌∙◌}
 use mathlib.Core.List.{List, ◌++◌}
 use Prim.Native.Nat.{ℕ, ◌≤◌, ◌<◌}
-use native.Mathlib.Omega.{arith}
 use lib.ListN.{length, drop}
 use borrow.Author.Tests.{lt-ltb, le-ltb}
+use Rattle.std.specs.Prelude.{Result, Ok, Err, OnOk}
 use Rattle.refusals.specs.declared.Refusal.{Refusal}
 use Rattle.refusals.specs.declared.Refusal.TheVariants.{TooManySteps, ShortWork, ShortOutput}
 use Rattle.refusals.proofs.Checks.{Refuses, here, later, Passes, clear, done, refused, passed, refuses-front, refuses-behind, passes-both}
 use Rattle.curve.specs.Codes.{point_count, dimension}
 use Rattle.curve.specs.Answers.{code_checks, symbol_checks}
+use Rattle.symbols.specs.Rule.{Known, symbols}
 use Rattle.published.specs.Start.{step_count}
+use Rattle.published.specs.Meaning.{Meaning}
+use Rattle.published.proofs.MeaningAfter.{meaning-known}
 use Rattle.published.specs.Picture.{area_size}
-use Rattle.answers.specs.declared.Stopped.TheVariants.{Done, Refused}
-use Rattle.steps.specs.Stop.{picture_after, votes_after, stop_checks, stop_answer, stop_work, stop_output}
+use Rattle.steps.specs.Stop.{state_after, picture_after, votes_after, stop_checks, stop_answer, stop_work, stop_output}
+
+-- what is left has its meaning
+means : {q u steps : ℕ} {row work output : List ℕ} (rest rest' : List ℕ) → Known q → steps ≤ step_count q → work ≡ picture_after q u row steps ++ rest
+    → output ≡ votes_after q u row steps ++ rest' → Meaning (symbols q) q u row steps output work
+unfolding picture_after votes_after state_after
+means {q} {u} {steps} {row} rest rest' known few e e' = rw (e, e') (meaning-known q known u row steps few rest' rest)
+
+-- what is promised of a call, by the answer and what is left in the two areas
+abbrev pub Promised : (q u steps : ℕ) (row area votes : List ℕ) → Result (Unit {0}) Refusal → List ℕ → List ℕ → Type 0
+Promised q u steps row area votes result area' votes' = record {
+  answer : result ≡ stop_answer q u steps row area votes;
+  work : area' ≡ stop_work q u steps row area votes;
+  output : votes' ≡ stop_output q u steps row area votes;
+  meaning : OnOk result (Meaning (symbols q) q u row steps votes' area');
+}
 
 module _ (q u steps : ℕ) (row work output : List ℕ) where
-  -- what is promised with a refusal, and when there is none
+  -- with a refusal nothing is written, and nothing is to be said of what the areas mean
   abbrev pub Refusing : Refusal → Type 0
-  Refusing why =
-      (Refused why ≡ stop_answer q u steps row work output) × (work ≡ stop_work q u steps row work output) × (output ≡ stop_output q u steps row work output)
+  Refusing why = Promised q u steps row work output (Err why) work output
 
-  abbrev pub Stopping : Type 0
-  Stopping =
-      (Done ≡ stop_answer q u steps row work output)
-      × (picture_after q u row steps ++ drop (area_size q) work ≡ stop_work q u steps row work output)
-      × (votes_after q u row steps ++ drop (dimension q u) output ≡ stop_output q u steps row work output)
-
-  -- a refusal is told, and nothing is written
   stop-refused : {why : Refusal} → Refuses (stop_checks q u steps row work output) why → Refusing why
   unfolding stop_answer stop_work stop_output
-  stop-refused r =
-      (sym (refused Refused Done r), sym (refused (λ why. work) _ r), sym (refused (λ why. output) _ r))
+  stop-refused r = record {
+    answer = sym (refused Err (Ok tt) r);
+    work = sym (refused (λ why. work) _ r);
+    output = sym (refused (λ why. output) _ r);
+    meaning = tt;
+  }
 
   -- otherwise the picture and the votes are left
-  stop-done : Passes (stop_checks q u steps row work output) → Stopping
+  stop-done : {work' output' : List ℕ} → Known q → steps ≤ step_count q → Passes (stop_checks q u steps row work output)
+      → work' ≡ picture_after q u row steps ++ drop (area_size q) work → output' ≡ votes_after q u row steps ++ drop (dimension q u) output
+      → Promised q u steps row work output (Ok tt) work' output'
   unfolding stop_answer stop_work stop_output
-  stop-done p =
-      (sym (passed Refused Done p), sym (passed (λ why. work) (picture_after q u row steps ++ drop (area_size q) work) p), sym (passed (λ why. output) (votes_after q u row steps ++ drop (dimension q u) output) p))
+  stop-done known enough p w o = record {
+    answer = sym (passed Err (Ok tt) p);
+    work = w ∙ sym (passed (λ why. work) (picture_after q u row steps ++ drop (area_size q) work) p);
+    output = o ∙ sym (passed (λ why. output) (votes_after q u row steps ++ drop (dimension q u) output) p);
+    meaning = means _ _ known enough w o;
+  }
 
   -- 1, 2
   pub refused-by-code : {why : Refusal} → Refuses (code_checks q u) why → Refusing why
@@ -73,18 +92,12 @@ module _ (q u steps : ℕ) (row work output : List ℕ) where
             (later (le-ltb (step_count q) steps enough)
             (refuses-behind whole (later (le-ltb (length work) (area_size q) room) (here (lt-ltb (length output) (dimension q u) l))))))
 
-        pub not-refused : area_size q ≤ length work → dimension q u ≤ length output → Stopping
+        pub not-refused : {work' output' : List ℕ} → Known q → area_size q ≤ length work → dimension q u ≤ length output
+            → work' ≡ picture_after q u row steps ++ drop (area_size q) work → output' ≡ votes_after q u row steps ++ drop (dimension q u) output
+            → Promised q u steps row work output (Ok tt) work' output'
         unfolding stop_checks
-        not-refused room places =
-            stop-done
+        not-refused known room places =
+            stop-done known enough
             (passes-both coded
             (clear (le-ltb (step_count q) steps enough)
             (passes-both whole (clear (le-ltb (length work) (area_size q) room) (clear (le-ltb (length output) (dimension q u) places) done)))))
-
--- a refusal is not an end
-not_done : (why : Refusal) → Refused why ≡ Done → ⊥
-not_done why e = let z : ◌≡◌ {A = ℕ} 0 1 = cc in omega arith
-
--- with a refusal go its effects, and nothing is to be said of what the areas mean
-pub with-refusal : {A B C D : Type 0} (why : Refusal) → A × B × C → A × (B × (C × (Refused why ≡ Done → D)))
-with-refusal why r = (r.0, (r.1, (r.2, λ e. absurd (not_done why e))))

@@ -1,6 +1,7 @@
 -- What the stop service answers and leaves, for all inputs. Document 01, "Lent areas" and "Refusal numbers".
 -- Assumes nothing.
-use Rattle.std.specs.Prelude.{List, [], ◌∷◌, ◌++◌, map, ℕ, ltb, length, drop}
+use Rattle.std.specs.Prelude.{List, [], ◌∷◌, ◌++◌, map, ℕ, ltb, length, drop, Result, Ok, Err}
+use Rattle.refusals.specs.declared.Refusal.{Refusal}
 use Rattle.refusals.specs.declared.Refusal.TheVariants.{TooManySteps, ShortWork, ShortOutput}
 use Rattle.refusals.specs.Numbers.{Check, ◌if◌, first_of}
 use Rattle.symbols.specs.Rule.{symbols, number, symbol}
@@ -9,8 +10,6 @@ use Rattle.curve.specs.Answers.{code_checks, symbol_checks}
 use Rattle.published.specs.Start.{step_count}
 use Rattle.published.specs.Steps.{State, after, message_of}
 use Rattle.published.specs.Picture.{area_size, picture}
-use Rattle.answers.specs.declared.Stopped.{Stopped}
-use Rattle.answers.specs.declared.Stopped.TheVariants.{Done, Refused}
 
 -- the state after t steps on a received row
 unfoldable pub state_after : (q : ℕ) → ℕ → List ℕ → ℕ → State (symbols q) q
@@ -32,8 +31,8 @@ stop_checks q u steps row work output =
     ∷ (symbol_checks q (point_count q) row
     ++ ((ShortWork if ltb (length work) (area_size q)) ∷ (ShortOutput if ltb (length output) (dimension q u)) ∷ [])))
 
-unfoldable pub stop_answer : ℕ → ℕ → ℕ → List ℕ → List ℕ → List ℕ → Stopped
-stop_answer q u steps row work output = first_of (stop_checks q u steps row work output) Refused Done
+unfoldable pub stop_answer : ℕ → ℕ → ℕ → List ℕ → List ℕ → List ℕ → Result (Unit {0}) Refusal
+stop_answer q u steps row work output = first_of (stop_checks q u steps row work output) Err (Ok tt)
 
 -- the picture, and the places behind it as they were; a refusal writes nothing
 unfoldable pub stop_work : ℕ → ℕ → ℕ → List ℕ → List ℕ → List ℕ → List ℕ

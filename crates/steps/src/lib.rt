@@ -4,6 +4,5 @@
 mod service;
 mod step;
 
-pub use answers::Stopped;
 pub use service::{advance, stop};
 pub use step::{step_count, take_step};

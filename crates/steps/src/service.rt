@@ -1,5 +1,5 @@
 // The stop service: any number of steps on a received row, with the picture and the votes that they leave.
-ghost use Rattle.std.specs.Prelude.{◌≡◌, List, ◌++◌, ℕ, ◌+◌, ◌-◌, ◌<◌, ◌≤◌, length, drop};
+ghost use Rattle.std.specs.Prelude.{◌≡◌, List, ◌++◌, ℕ, ◌+◌, ◌-◌, ◌<◌, ◌≤◌, length, drop, OnOk};
 ghost use Rattle.symbols.specs.Rule.{Known, symbols};
 ghost use Rattle.symbols.specs.Tables.{HasProducts};
 ghost use Rattle.curve.specs.Codes.{dimension};
@@ -11,8 +11,7 @@ ghost use Rattle.steps.specs.Votes.{votes_below, noted};
 ghost use Rattle.steps.specs.Stop.{picture_after, votes_after, stop_answer, stop_work, stop_output};
 
 use crate::step;
-use answers::Stopped;
-use curve::{Code, Named};
+use curve::Code;
 use refusals::Refusal;
 
 // Puts the vote of the step after `done` steps in its place among the votes by rising non-gap, if that step votes. The places
@@ -63,31 +62,36 @@ pub fn advance(code: Code, steps: usize, row: &[u8], work: &mut [u8], votes: &mu
 }
 
 // Stopping under a code: refused with 3 to 7, or done.
-fn stop_under(code: Code, steps: usize, row: &[u8], work: &mut [u8], output: &mut [u8]) -> Stopped
+fn stop_under(
+    code: Code,
+    steps: usize,
+    row: &[u8],
+    work: &mut [u8],
+    output: &mut [u8],
+) -> Result<(), Refusal>
     requires { Valid code }
-    ensures value { result ≡ stop_answer code.q code.u steps row.now work.old output.old }
-    ensures work_left { work.new ≡ stop_work code.q code.u steps row.now work.old output.old }
-    ensures output_left { output.new ≡ stop_output code.q code.u steps row.now work.old output.old }
-    ensures meaning { result ≡ Stopped.Done
-        → Meaning (symbols code.q) code.q code.u row.now steps output.new work.new }
+    ensures answer { result ≡ stop_answer code.q code.u steps row.now work.old output.old }
+    ensures work { work.new ≡ stop_work code.q code.u steps row.now work.old output.old }
+    ensures output { output.new ≡ stop_output code.q code.u steps row.now work.old output.old }
+    ensures meaning { OnOk result (Meaning (symbols code.q) code.q code.u row.now steps output.new work.new) }
 {
     if step::step_count(code.q) < steps {
-        return Stopped::Refused(Refusal::TooManySteps);
+        return Err(Refusal::TooManySteps);
     }
     if row.len() != code.n {
-        return Stopped::Refused(Refusal::WrongLength);
+        return Err(Refusal::WrongLength);
     }
     if !symbols::all_symbols(code.q, row) {
-        return Stopped::Refused(Refusal::NoSymbol);
+        return Err(Refusal::NoSymbol);
     }
     if work.len() < workarea::area_size(code.q) {
-        return Stopped::Refused(Refusal::ShortWork);
+        return Err(Refusal::ShortWork);
     }
     if output.len() < code.k {
-        return Stopped::Refused(Refusal::ShortOutput);
+        return Err(Refusal::ShortOutput);
     }
     advance(code, steps, row, work, output);
-    Stopped::Done
+    Ok(())
 }
 
 // Stopping after any number of steps, for all inputs: refused with 1 to 7, or done with the picture and the votes, which then
@@ -99,14 +103,12 @@ pub fn stop(
     row: &[u8],
     work: &mut [u8],
     output: &mut [u8],
-) -> Stopped
+) -> Result<(), Refusal>
     ensures answer { result ≡ stop_answer q u steps row.now work.old output.old }
     ensures work { work.new ≡ stop_work q u steps row.now work.old output.old }
     ensures output { output.new ≡ stop_output q u steps row.now work.old output.old }
-    ensures meaning { result ≡ Stopped.Done → Meaning (symbols q) q u row.now steps output.new work.new }
+    ensures meaning { OnOk result (Meaning (symbols q) q u row.now steps output.new work.new) }
 {
-    match curve::code_of(q, u) {
-        Named::Code(code) => stop_under(code, steps, row, work, output),
-        Named::Refused(why) => Stopped::Refused(why),
-    }
+    let code = curve::code_of(q, u)?;
+    stop_under(code, steps, row, work, output)
 }

@@ -9,6 +9,7 @@ ghost use Rattle.workarea.specs.Heights.{Heights};
 ghost use Rattle.steps.specs.Step.{Stepped, BelowAfter};
 
 // The weight of the first step.
+#[tactic(auto, using(workarea::proofs::Sizes::sizes), unfolding(published::specs::Start::start_weight))]
 pub fn start_weight(q: usize) -> usize
     requires { Known q }
     ensures { result ≡ start_weight q }
@@ -17,6 +18,7 @@ pub fn start_weight(q: usize) -> usize
 }
 
 // How many steps there are: one for each weight down to 0.
+#[tactic(auto, using(workarea::proofs::Sizes::sizes), unfolding(published::specs::Start::step_count))]
 pub fn step_count(q: usize) -> usize
     requires { Known q }
     ensures { result ≡ step_count q }
@@ -25,6 +27,7 @@ pub fn step_count(q: usize) -> usize
 }
 
 // Does the step after `done` steps and gives its vote, 0 where there is none.
+#[tactic(auto, using(workarea::proofs::Sizes::area_of), unfolding(published::specs::Start::step_count))]
 pub fn take_step(
     table: &[u8],
     q: usize,

@@ -7,19 +7,20 @@
 
 ghost use Rattle.std.specs.Prelude.{◌<◌, length};
 
-use answers::Stopped;
 use files::read_full;
+use refusals::Refusal;
 use std::io;
+use textlines::each_line;
 use vectors::{UNTOUCHED, read_number, read_symbols, spell_symbols};
 
 // Where the row starts in a case, after numbers of fixed widths.
 const ROW_START: usize = 16;
 
 // The answer as a word, with a number for a refusal.
-fn tell(rt: &impl Print, answer: Stopped) -> io::Result<()> {
+fn tell(rt: &impl Print, answer: Result<(), Refusal>) -> io::Result<()> {
     match answer {
-        Stopped::Done => print!(rt; "done "),
-        Stopped::Refused(why) => print!(rt; "refuse {} ", refusals::number_of(why)),
+        Ok(()) => print!(rt; "done "),
+        Err(why) => print!(rt; "refuse {why} "),
     }
 }
 
@@ -89,19 +90,9 @@ fn run_line(rt: &impl Print, line: &mut [u8]) -> io::Result<()> {
     run_lent(rt, q, u, count, work_length, output_length, line)
 }
 
-// All cases of a text, one to a line.
-fn run_lines(rt: &impl Print, text: &mut [u8]) -> io::Result<()> {
-    let mut at = 0;
-    while at < text.len() {
-        let end = textlines::line_end(text, at);
-        run_line(rt, &mut text[at..end])?;
-        at = end;
-    }
-    Ok(())
-}
-
+// All cases, one to a line.
 fn main(rt: HostRuntime) -> io::Result<()> {
     let mut text = [0u8; 65536];
     let got = read_full(&mut rt.stdin(), &mut text)?;
-    run_lines(&rt, &mut text[..got])
+    each_line(&mut text[..got], |line| run_line(&rt, line))
 }

@@ -4,30 +4,19 @@ use mathlib.Core.Path.{◌≡◌, refl, sym, ◌∙◌, subst}
 use mathlib.Core.Bool.{Bool, true, false}
 use mathlib.Core.List.{List}
 use mathlib.Core.Logic.{◌⊎◌, inl, inr, ⊎_elim}
-use Prim.Native.Nat.{ℕ, ◌+◌, ◌-◌, ◌*◌, ◌<◌, ◌≤◌}
+use Prim.Native.Nat.{ℕ, ◌+◌, ◌-◌, ◌<◌, ◌≤◌}
 use native.Mathlib.Omega.{arith}
 use lib.ListN.{get_or}
 use borrow.Author.Tests.{lt-ltb, le-ltb}
 use Rattle.lists.proofs.Numbers.{lt-or-ge, same_or_not}
 use Rattle.symbols.specs.Rule.{Known, symbols}
-use Rattle.substitution.specs.Products.{Apart, plus_product, product_added, upper_of, lower_of, replaced_z}
+use Rattle.substitution.specs.Products.{plus_product, product_added, upper_of, lower_of, replaced_z}
 use Rattle.workarea.specs.Area.{Cells, with_rows}
 use Rattle.workarea.proofs.Cells.{rows_in, rows_out}
 use Rattle.substitution.proofs.ProductCells.{plus_product-cong}
 
 module _ (q : ℕ) (known : Known q) where
   open symbols q use {K}
-
-  -- the two parts of a polynomial are apart
-  pub parts-apart : (p : ℕ) → p < 2 * q → Apart q (lower_of q p) (upper_of q p)
-  parts-apart p h =
-      record {
-        to-polynomial = h;
-        to_row = omega arith;
-        from-polynomial = h;
-        from_row = omega arith;
-        rows = λ j k hj hk e d. omega arith;
-      }
 
   module _ (heights : List ℕ) (a b : ℕ) (ρ : K) where
     -- in polynomial p the product for z looks at polynomial p alone

@@ -7,6 +7,7 @@ use Prim.Native.Nat.{ℕ, ◌<◌, ◌^◌}
 use native.Mathlib.Omega.{arith}
 use lib.Dec.{leb}
 use borrow.Author.Tests.{leb-true}
+use Rattle.std.specs.Prelude.{Ok, Err}
 use Rattle.refusals.specs.declared.Refusal.{Refusal}
 use Rattle.refusals.specs.declared.Refusal.TheVariants.{BeyondReach}
 use Rattle.refusals.specs.Numbers.{Check}
@@ -18,7 +19,6 @@ use Rattle.curve.specs.Answers.{code_checks}
 use Rattle.curve.proofs.Sizes.{count_small}
 use Rattle.curve.proofs.Distances.{reach-most}
 use Rattle.curve.proofs.Naming.{passes-known}
-use Rattle.answers.specs.declared.Decoded.TheVariants.{Accepted, Refused}
 use Rattle.judging.specs.Judging.{count_of}
 use Rattle.decoder.specs.Decoding.{judgement, decoded, decode_checks, decode_answer}
 use Rattle.voting.specs.Voting.{voted}
@@ -33,7 +33,7 @@ judged : (q u : ℕ) (message row : List ℕ) → reach q u < 2 ^ 63 → CountFi
 unfolding judgement
 judged q u message row small = go (leb (count_of q u message row) (reach q u)) refl
   where
-    go : (b : Bool) → leb (count_of q u message row) (reach q u) ≡ b → CountFits (elim b [ true ↦ Accepted (count_of q u message row) | false ↦ Refused BeyondReach ])
+    go : (b : Bool) → leb (count_of q u message row) (reach q u) ≡ b → CountFits (elim b [ true ↦ Ok (count_of q u message row) | false ↦ Err BeyondReach ])
     go true within = omega (arith, small, leb-true (count_of q u message row) (reach q u) within)
     go false beyond = tt
 
@@ -44,7 +44,7 @@ module _ (q u : ℕ) (row work message corrected : List ℕ) where
   -- a refusal has no count
   if-refused : {why : Refusal} → Refuses checks why → CountFits (decode_answer q u row work message corrected)
   unfolding decode_answer
-  if-refused refuses = subst CountFits (sym (refused Refused (decoded q u row) refuses)) tt
+  if-refused refuses = subst CountFits (sym (refused Err (decoded q u row) refuses)) tt
 
   -- q is known then
   known : Passes checks → Known q
@@ -55,7 +55,7 @@ module _ (q u : ℕ) (row work message corrected : List ℕ) where
   if-passed : Passes checks → CountFits (decode_answer q u row work message corrected)
   unfolding decode_answer decoded
   if-passed passes =
-      subst CountFits (sym (passed Refused (decoded q u row) passes)) (judged q u (voted q u row) row (reach-small q u (known passes)))
+      subst CountFits (sym (passed Err (decoded q u row) passes)) (judged q u (voted q u row) row (reach-small q u (known passes)))
 
   -- whatever decoding answers, its count fits
   pub answer-fits : CountFits (decode_answer q u row work message corrected)

@@ -11,20 +11,20 @@ use Rattle.decoder.specs.Decoding.{decode_answer, decode_work, decode_message, d
 use Rattle.passing.specs.PassOn.{passed_on}
 use Rattle.verifying.specs.AsBytes.{verify_bytes_answer, verify_bytes_records, verify_bytes_work}
 use Rattle.block.specs.Writing.{write_answer, write_block}
-use Rattle.results.specs.Results.{encode_result, stop_result, decode_result, verify_result, verify_at, write_result, was_accepted, row_passed}
+use Rattle.results.specs.Results.{done_result, count_result, verify_result, verify_at, was_accepted, row_passed}
 
 -- a result that a promise allows: an integer, and what each lent place holds afterwards
 pub record Encodes (q u : ℕ) (message row : List ℕ) (r : ℤ) (row₁ : List ℕ) : Type 0 where
-  pub result : r ≡ encode_result (encode_answer q u message row)
+  pub result : r ≡ done_result (encode_answer q u message row)
   pub row_is : row₁ ≡ encode_output q u message row
 
 pub record Stops (q u steps : ℕ) (row work votes : List ℕ) (r : ℤ) (work₁ votes₁ : List ℕ) : Type 0 where
-  pub result : r ≡ stop_result (stop_answer q u steps row work votes)
+  pub result : r ≡ done_result (stop_answer q u steps row work votes)
   pub work-is : work₁ ≡ stop_work q u steps row work votes
   pub votes-is : votes₁ ≡ stop_output q u steps row work votes
 
 pub record Decodes (q u : ℕ) (row work message corrected : List ℕ) (r : ℤ) (work₁ message₁ corrected₁ : List ℕ) : Type 0 where
-  pub result : r ≡ decode_result (decode_answer q u row work message corrected)
+  pub result : r ≡ count_result (decode_answer q u row work message corrected)
   pub work-is : work₁ ≡ decode_work q u row work message corrected
   pub message-is : message₁ ≡ decode_message q u row work message corrected
   pub corrected-is : corrected₁ ≡ decode_corrected q u row work message corrected
@@ -34,7 +34,7 @@ pub record PassesOn (q : ℕ) (decoded : ℤ) (received corrected : List ℕ) (r
   pub from_is : from₁ ≡ row_passed (was_accepted decoded)
 
 pub record Writes (payload block : List ℕ) (r : ℤ) (block₁ : List ℕ) : Type 0 where
-  pub result : r ≡ write_result (write_answer payload block)
+  pub result : r ≡ count_result (write_answer payload block)
   pub block-is : block₁ ≡ write_block payload block
 
 pub record Verifies (block payload records work : List ℕ) (at : ℕ) (r : ℤ) (at₁ : ℕ) (records₁ work₁ : List ℕ) : Type 0 where

@@ -9,7 +9,7 @@ ghost use Rattle.decoder.specs.Decoding.{decode_answer, decode_work, decode_mess
 ghost use Rattle.passing.specs.PassOn.{passed_on};
 ghost use Rattle.verifying.specs.AsBytes.{verify_bytes_answer, verify_bytes_records, verify_bytes_work};
 ghost use Rattle.block.specs.Writing.{write_answer, write_block};
-ghost use Rattle.results.specs.Results.{encode_result, stop_result, decode_result, verify_result, verify_at, write_result, was_accepted, row_passed};
+ghost use Rattle.results.specs.Results.{done_result, count_result, verify_result, verify_at, was_accepted, row_passed};
 
 use block::{verify_bytes, write};
 use decoder::decode;
@@ -19,21 +19,19 @@ use steps::stop;
 
 // Writes a message's row; 0, or minus a refusal's number.
 pub fn tape_encode(q: u64, u: u64, message: &[u8], row: &mut [u8]) -> i64
-    ensures result { result ≡ encode_result (encode_answer q u message.now row.old) }
+    ensures result { result ≡ done_result (encode_answer q u message.now row.old) }
     ensures row { row.new ≡ encode_output q u message.now row.old }
 {
-    let answer = encode(q as usize, u as usize, message, row);
-    results::of_encoding(answer)
+    results::of_done(encode(q as usize, u as usize, message, row))
 }
 
 // Takes so many steps on a row, and leaves their picture and the votes; 0, or minus a refusal's number.
 pub fn tape_stop(q: u64, u: u64, steps: u64, row: &[u8], work: &mut [u8], votes: &mut [u8]) -> i64
-    ensures result { result ≡ stop_result (stop_answer q u steps row.now work.old votes.old) }
+    ensures result { result ≡ done_result (stop_answer q u steps row.now work.old votes.old) }
     ensures work { work.new ≡ stop_work q u steps row.now work.old votes.old }
     ensures votes { votes.new ≡ stop_output q u steps row.now work.old votes.old }
 {
-    let answer = stop(q as usize, u as usize, steps as usize, row, work, votes);
-    results::of_stopping(answer)
+    results::of_done(stop(q as usize, u as usize, steps as usize, row, work, votes))
 }
 
 // Writes the message and the corrected row; the count of places that differ, or minus a refusal's number.
@@ -45,14 +43,13 @@ pub fn tape_decode(
     message: &mut [u8],
     corrected: &mut [u8],
 ) -> i64
-    ensures result { result ≡ decode_result (decode_answer q u row.now work.old message.old corrected.old) }
+    ensures result { result ≡ count_result (decode_answer q u row.now work.old message.old corrected.old) }
     ensures work { work.new ≡ decode_work q u row.now work.old message.old corrected.old }
     ensures message { message.new ≡ decode_message q u row.now work.old message.old corrected.old }
     ensures corrected { corrected.new
         ≡ decode_corrected q u row.now work.old message.old corrected.old }
 {
-    let answer = decode(q as usize, u as usize, row, work, message, corrected);
-    results::of_decoding(answer)
+    results::of_count(decode(q as usize, u as usize, row, work, message, corrected))
 }
 
 // Says which row is passed on after a decoding, in `from`, and how many of that row's first symbols are: a part of a lent row
@@ -68,18 +65,17 @@ pub fn tape_pass_on<'a>(
     ensures from { from.new ≡ row_passed (was_accepted decoded) }
 {
     let accepted = results::was_accepted(decoded);
-    *from = results::row_passed(accepted);
+    *from = u64::from(accepted);
     let part = pass_on(q as usize, accepted, received, corrected);
     part.len() as i64
 }
 
 // Writes the block of a payload; its length in bytes, or minus a refusal's number.
 pub fn tape_write(payload: &[u8], block: &mut [u8]) -> i64
-    ensures result { result ≡ write_result (write_answer payload.now block.old) }
+    ensures result { result ≡ count_result (write_answer payload.now block.old) }
     ensures block { block.new ≡ write_block payload.now block.old }
 {
-    let answer = write(payload, block);
-    results::of_writing(answer)
+    results::of_count(write(payload, block))
 }
 
 // Compares a block with its payload, two bytes a record; 0 copied, 1 differs, 2 unreadable, or minus a refusal's number. The

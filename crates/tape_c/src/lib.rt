@@ -9,12 +9,12 @@ ghost use Rattle.decoder.specs.Decoding.{decode_answer, decode_work, decode_mess
 ghost use Rattle.passing.specs.PassOn.{passed_on};
 ghost use Rattle.verifying.specs.AsBytes.{verify_bytes_answer, verify_bytes_records, verify_bytes_work};
 ghost use Rattle.block.specs.Writing.{write_answer, write_block};
-ghost use Rattle.results.specs.Results.{encode_result, stop_result, decode_result, verify_result, verify_at, write_result, was_accepted, row_passed};
+ghost use Rattle.results.specs.Results.{done_result, count_result, verify_result, verify_at, was_accepted, row_passed};
 
 // Writes a message's row; 0, or minus a refusal's number.
 #[unsafe(no_mangle)]
 pub extern "C" fn tape_encode(q: u64, u: u64, message: &[u8], row: &mut [u8]) -> i64
-    ensures result { result ≡ encode_result (encode_answer q u message.now row.old) }
+    ensures result { result ≡ done_result (encode_answer q u message.now row.old) }
     ensures row { row.new ≡ encode_output q u message.now row.old }
 {
     tape::tape_encode(q, u, message, row)
@@ -30,7 +30,7 @@ pub extern "C" fn tape_stop(
     work: &mut [u8],
     votes: &mut [u8],
 ) -> i64
-    ensures result { result ≡ stop_result (stop_answer q u steps row.now work.old votes.old) }
+    ensures result { result ≡ done_result (stop_answer q u steps row.now work.old votes.old) }
     ensures work { work.new ≡ stop_work q u steps row.now work.old votes.old }
     ensures votes { votes.new ≡ stop_output q u steps row.now work.old votes.old }
 {
@@ -47,7 +47,7 @@ pub extern "C" fn tape_decode(
     message: &mut [u8],
     corrected: &mut [u8],
 ) -> i64
-    ensures result { result ≡ decode_result (decode_answer q u row.now work.old message.old corrected.old) }
+    ensures result { result ≡ count_result (decode_answer q u row.now work.old message.old corrected.old) }
     ensures work { work.new ≡ decode_work q u row.now work.old message.old corrected.old }
     ensures message { message.new ≡ decode_message q u row.now work.old message.old corrected.old }
     ensures corrected { corrected.new
@@ -75,7 +75,7 @@ pub extern "C" fn tape_pass_on<'a>(
 // Writes the block of a payload; its length in bytes, or minus a refusal's number.
 #[unsafe(no_mangle)]
 pub extern "C" fn tape_write(payload: &[u8], block: &mut [u8]) -> i64
-    ensures result { result ≡ write_result (write_answer payload.now block.old) }
+    ensures result { result ≡ count_result (write_answer payload.now block.old) }
     ensures block { block.new ≡ write_block payload.now block.old }
 {
     tape::tape_write(payload, block)

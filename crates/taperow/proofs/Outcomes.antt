@@ -8,10 +8,10 @@ use native.Mathlib.Omega.{arith}
 use lib.Dec.{leb}
 use lib.ListN.{take, drop}
 use borrow.Author.Tests.{leb-true}
+use Rattle.std.specs.Prelude.{Result, Ok, Err}
+use Rattle.refusals.specs.declared.Refusal.{Refusal}
 use Rattle.refusals.specs.declared.Refusal.TheVariants.{BeyondReach}
 use Rattle.curve.specs.Codes.{reach}
-use Rattle.answers.specs.declared.Decoded.{Decoded}
-use Rattle.answers.specs.declared.Decoded.TheVariants.{Accepted, Refused}
 use Rattle.judging.specs.Judging.{count_of}
 use Rattle.decoder.specs.Decoding.{judgement, decoded, if_accepted}
 use Rattle.voting.specs.Voting.{voted}
@@ -30,34 +30,34 @@ pub record Within (message row : List ℕ) (count : ℕ) : Type 0 where
 
 -- the judgement, by whether the count is within reach
 judged : (message row : List ℕ) (count : ℕ) (b : Bool) → leb (count_of tape_q tape_u message row) (reach tape_q tape_u) ≡ b
-    → (elim b as (λ b'. Decoded) [ true ↦ Accepted (count_of tape_q tape_u message row) | false ↦ Refused BeyondReach ])
-    ≡ Accepted count → Within message row count
+    → (elim b as (λ b'. Result ℕ Refusal) [ true ↦ Ok (count_of tape_q tape_u message row) | false ↦ Err BeyondReach ]) ≡ Ok count
+    → Within message row count
 judged message row count true within accepted =
     let same : count_of tape_q tape_u message row ≡ count = cc in
     record {
       counted = sym same;
       reached = omega (arith, leb-true (count_of tape_q tape_u message row) (reach tape_q tape_u) within, reach-is);
     }
-judged message row count false beyond accepted = let z : ◌≡◌ {A = ℕ} 0 1 = cc in absurd (omega arith)
+judged message row count false beyond accepted = cc
 
 -- what an acceptance of a row says
-pub accepted-within : (row : List ℕ) (count : ℕ) → decoded tape_q tape_u row ≡ Accepted count
+pub accepted-within : (row : List ℕ) (count : ℕ) → decoded tape_q tape_u row ≡ Ok count
     → Within (voted tape_q tape_u row) row count
 unfolding decoded judgement
 accepted-within row count accepted = judged (voted tape_q tape_u row) row count _ refl accepted
 
 -- the record of a row's symbols, by what reading them answered and by the message that was read
-pub judged-by : (row original message old : List ℕ) (answer : Decoded) → answer ≡ decoded tape_q tape_u row
+pub judged-by : (row original message old : List ℕ) (answer : Result ℕ Refusal) → answer ≡ decoded tape_q tape_u row
     → message ≡ if_accepted answer (voted tape_q tape_u row) old
     → outcome answer (same_list message (unpacked original message_length)) ≡ judged_record row original
 unfolding judged_record if_accepted outcome
-judged-by row original message old (Accepted count) answered written = rw (← answered, written)
-judged-by row original message old (Refused why) answered written = rw (← answered)
+judged-by row original message old (Ok count) answered written = rw (← answered, written)
+judged-by row original message old (Err why) answered written = rw (← answered)
 
 -- the count of an acceptance is within reach
-pub judged-reached : (row : List ℕ) (answer : Decoded) → answer ≡ decoded tape_q tape_u row → Reached answer
-judged-reached row (Accepted count) answered = (accepted-within row count (sym answered)).reached
-judged-reached row (Refused why) answered = tt
+pub judged-reached : (row : List ℕ) (answer : Result ℕ Refusal) → answer ≡ decoded tape_q tape_u row → Reached answer
+judged-reached row (Ok count) answered = (accepted-within row count (sym answered)).reached
+judged-reached row (Err why) answered = tt
 
 -- the record of row r is that of its symbols and of the bytes of its message where they stand
 pub row-judged : (block payload : List ℕ) (r : ℕ) → judged_record (block_row block r) (take 20 (drop (20 * r) payload)) ≡ row_record block payload r
@@ -65,12 +65,12 @@ unfolding judged_record row_record
 row-judged block payload r = rw (← message-part payload r)
 
 -- no outcome has a count above the reach
-outcome-small : (answer : Decoded) (equal : Bool) → ((count : ℕ) → answer ≡ Accepted count → count ≤ 9)
+outcome-small : (answer : Result ℕ Refusal) (equal : Bool) → ((count : ℕ) → answer ≡ Ok count → count ≤ 9)
     → (outcome answer equal).count ≤ 9
 unfolding outcome
-outcome-small (Accepted count) true small = small count refl
-outcome-small (Accepted count) false small = small count refl
-outcome-small (Refused why) equal small = zero-le
+outcome-small (Ok count) true small = small count refl
+outcome-small (Ok count) false small = small count refl
+outcome-small (Err why) equal small = zero-le
 
 -- no row has a count above the reach
 pub row-count-small : (block payload : List ℕ) (r : ℕ) → (row_record block payload r).count ≤ 9

@@ -9,8 +9,8 @@ use lib.ListN.{length, drop_of_length-le}
 use Rattle.refusals.proofs.Checks.{Passes, passed}
 use Rattle.symbols.specs.Rule.{any_beyond}
 use Rattle.published.specs.Picture.{area_size}
-use Rattle.answers.specs.declared.Decoded.{Decoded}
-use Rattle.answers.specs.declared.Decoded.TheVariants.{Refused}
+use Rattle.std.specs.Prelude.{Result, Err}
+use Rattle.refusals.specs.declared.Refusal.{Refusal}
 use Rattle.voting.specs.Voting.{voted, cleared}
 use Rattle.decoder.specs.Decoding.{decoded, decode_checks, decode_answer, decode_work, if_accepted, decode_message}
 use Rattle.decoder.proofs.DecodeChecks.{passes as no-check}
@@ -30,7 +30,7 @@ module _ (row work message corrected : List ℕ) (full : length row ≡ 64) (sym
   -- the answer is the row's own
   pub answers : decode_answer tape_q tape_u row work message corrected ≡ decoded tape_q tape_u row
   unfolding decode_answer
-  answers = passed Refused (decoded tape_q tape_u row) passes
+  answers = passed Err (decoded tape_q tape_u row) passes
 
   -- the work area is cleared
   pub clears : decode_work tape_q tape_u row work message corrected ≡ cleared (area_size tape_q) work
@@ -47,12 +47,12 @@ module _ (row work message corrected : List ℕ) (full : length row ≡ 64) (sym
       (rw (dimension-is, drop_of_length-le message {i = 40} (omega arith)) (append-nil (voted tape_q tape_u row))))
 
 -- what decoding the 64 symbols of a row leaves
-pub record ReadRow (row work message : List ℕ) (answer : Decoded) (work' message' : List ℕ) : Type 0 where
+pub record ReadRow (row work message : List ℕ) (answer : Result ℕ Refusal) (work' message' : List ℕ) : Type 0 where
   pub answered : answer ≡ decoded tape_q tape_u row
   pub emptied : work' ≡ cleared (area_size tape_q) work
   pub written : message' ≡ if_accepted answer (voted tape_q tape_u row) message
 
-pub reads-row : (row work message corrected : List ℕ) (answer : Decoded) (work' message' : List ℕ)
+pub reads-row : (row work message corrected : List ℕ) (answer : Result ℕ Refusal) (work' message' : List ℕ)
     → length row ≡ 64 → any_beyond tape_q row ≡ false → area_size tape_q ≤ length work
     → length message ≡ 40 → length corrected ≡ 64 → answer ≡ decode_answer tape_q tape_u row work message corrected
     → work' ≡ decode_work tape_q tape_u row work message corrected

@@ -8,18 +8,19 @@ ghost use Rattle.decoder.specs.Decoding.{decoded, if_accepted};
 ghost use Rattle.layout.specs.Layout.{tape_q, tape_u, row_length, message_length, row_bytes, message_bytes, header_bytes, block_row};
 ghost use Rattle.taperow.specs.Reading.{row_record, judged_record};
 
-use answers::{Decoded, Record};
+use answers::Record;
 use layout::{
     FIRST_END, HEADER_BYTES, MESSAGE_BYTES, MESSAGE_LENGTH, ROW_BYTES, ROW_LENGTH, TAPE_Q, TAPE_U,
 };
 use packing::unpack;
+use refusals::Refusal;
 use rowstate::record_of;
 
 // The symbols of row r of a block, gathered from where they stand: byte 8 + 32r on.
 fn gather_row(block: &[u8], r: usize, symbols: &mut [u8])
     requires { (header_bytes + row_bytes + row_bytes * r ≤ length block.now) × (length symbols.old ≡ row_length) }
-    ensures symbols_after { symbols.new ≡ block_row block.now r }
-    ensures symbols_after_2 { any_beyond tape_q symbols.new ≡ false }
+    ensures gathered { symbols.new ≡ block_row block.now r }
+    ensures all_symbols { any_beyond tape_q symbols.new ≡ false }
 {
     unpack(
         &block[HEADER_BYTES + ROW_BYTES * r..FIRST_END + ROW_BYTES * r],
@@ -28,9 +29,9 @@ fn gather_row(block: &[u8], r: usize, symbols: &mut [u8])
 }
 
 // Decodes the 64 symbols of a row.
-fn read_row(symbols: &[u8], work: &mut [u8], message: &mut [u8]) -> Decoded
-    requires symbols_len { (length symbols.now ≡ row_length) × (any_beyond tape_q symbols.now ≡ false) }
-    requires tape_q_in_bounds { (area_size tape_q ≤ length work.old) × (length message.old ≡ message_length) }
+fn read_row(symbols: &[u8], work: &mut [u8], message: &mut [u8]) -> Result<usize, Refusal>
+    requires full_row { (length symbols.now ≡ row_length) × (any_beyond tape_q symbols.now ≡ false) }
+    requires room { (area_size tape_q ≤ length work.old) × (length message.old ≡ message_length) }
     ensures answered { result ≡ decoded tape_q tape_u symbols.now }
     ensures work_left { work.new ≡ cleared (area_size tape_q) work.old }
     ensures message_left { message.new ≡ if_accepted result (voted tape_q tape_u symbols.now) message.old }
@@ -41,8 +42,8 @@ fn read_row(symbols: &[u8], work: &mut [u8], message: &mut [u8]) -> Decoded
 
 // Judges a row's symbols: its record, against the 20 bytes of its message in the payload.
 fn judge_row(symbols: &[u8], original: &[u8], work: &mut [u8]) -> Record
-    requires symbols_len { (length symbols.now ≡ row_length) × (any_beyond tape_q symbols.now ≡ false) }
-    requires original_len { (length original.now ≡ message_bytes) × (area_size tape_q ≤ length work.old) }
+    requires full_row { (length symbols.now ≡ row_length) × (any_beyond tape_q symbols.now ≡ false) }
+    requires lent { (length original.now ≡ message_bytes) × (area_size tape_q ≤ length work.old) }
     ensures outcome { result ≡ judged_record symbols.now original.now }
     ensures work_left { work.new ≡ cleared (area_size tape_q) work.old }
 {

@@ -14,8 +14,7 @@ use Rattle.curve.proofs.GivenChecks.{code-passes, given-passes, passes-given}
 use Rattle.published.specs.Picture.{cell_number, picture}
 use Rattle.workarea.specs.Area.{Starts, cells_of, numbers, shown}
 use Rattle.steps.specs.Stop.{state_after, picture_after}
-use Rattle.answers.specs.declared.Decoded.{Decoded}
-use Rattle.answers.specs.declared.Decoded.TheVariants.{Accepted, Refused}
+use Rattle.std.specs.Prelude.{Result, Ok, Err}
 use Rattle.decoder.specs.Decoding.{decoded, if_accepted}
 use Rattle.decoder.specs.FullRows.{message_after}
 use Rattle.voting.specs.Voting.{voted}
@@ -54,17 +53,19 @@ module _ (q u : ℕ) (row : List ℕ) where
 
   module _ (message after : List ℕ) (left : after ≡ message_after q u row message) {k : ℕ} (size : k ≡ dimension q u) where
     -- the message that was voted for stands in the first places of what an accepted decoding leaves
-    accepted-front : {count : ℕ} → decoded q u row ≡ Accepted count → take k after ≡ voted q u row
+    accepted-front : {count : ℕ} → decoded q u row ≡ Ok count → take k after ≡ voted q u row
     unfolding message_after if_accepted
     accepted-front e =
         let behind = drop (dimension q u) message in
-        let whole : after ≡ voted q u row ++ behind = left ∙ ap (λ (d : Decoded). if_accepted d (voted q u row ++ behind) message) e in
+        let whole : after ≡ voted q u row ++ behind =
+        left ∙ ap (λ (d : Result ℕ Refusal). if_accepted d (voted q u row ++ behind) message) e in
         ap (take k) whole ∙ take_at (voted q u row) behind k (voted-count q u row ∙ sym size)
 
     -- so the last line is made from what decoding answers and leaves
-    pub last_line-is : {r : Decoded} → r ≡ decoded q u row → last_line r (take k after) ≡ last_line (decoded q u row) (voted q u row)
-    last_line-is {r} answered = by_answer r (sym answered) ∙ ap (λ (d : Decoded). last_line d (voted q u row)) answered
+    pub last_line-is : {r : Result ℕ Refusal}
+        → r ≡ decoded q u row → last_line r (take k after) ≡ last_line (decoded q u row) (voted q u row)
+    last_line-is {r} answered = by_answer r (sym answered) ∙ ap (λ (d : Result ℕ Refusal). last_line d (voted q u row)) answered
       where
-        by_answer : (d : Decoded) → decoded q u row ≡ d → last_line d (take k after) ≡ last_line d (voted q u row)
-        by_answer (Accepted count) e = ap (last_line (Accepted count)) (accepted-front e)
-        by_answer (Refused why) e = unfold last_line in refl
+        by_answer : (d : Result ℕ Refusal) → decoded q u row ≡ d → last_line d (take k after) ≡ last_line d (voted q u row)
+        by_answer (Ok count) e = ap (last_line (Ok count)) (accepted-front e)
+        by_answer (Err why) e = unfold last_line in refl

@@ -22,8 +22,7 @@ use Rattle.curve.proofs.Distances.{reach-most}
 use Rattle.published.specs.Start.{width, start_weight, step_count}
 use Rattle.published.specs.Steps.{message_of}
 use Rattle.steps.specs.Stop.{state_after, votes_after}
-use Rattle.answers.specs.declared.Decoded.{Decoded}
-use Rattle.answers.specs.declared.Decoded.TheVariants.{Accepted, Refused}
+use Rattle.std.specs.Prelude.{Result, Ok, Err}
 use Rattle.judging.specs.Judging.{count_of}
 use Rattle.decoder.specs.Decoding.{judgement, decoded}
 use Rattle.voting.specs.Voting.{voted}
@@ -77,7 +76,7 @@ length_last q u row code = by-test (leb (count_of q u (voted q u row) row) (reac
     count = count_of q u (voted q u row) row
 
     by-test : (t : Bool) → leb count (reach q u) ≡ t
-        → length (last_line (elim t as (λ _. Decoded) [ true ↦ Accepted count | false ↦ Refused BeyondReach ]) (voted q u row)) ≤ last_size q
+        → length (last_line (elim t as (λ _. Result ℕ Refusal) [ true ↦ Ok count | false ↦ Err BeyondReach ]) (voted q u row)) ≤ last_size q
     by-test true e =
         unfold last_line in length-accepted q u count row code (omega (arith, leb-true count (reach q u) e, reach-most q u))
     by-test false e = unfold last_line in refuse-last q BeyondReach

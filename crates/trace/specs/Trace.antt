@@ -1,14 +1,13 @@
 -- What rowtrace prints: q and u, a line for each step, and the outcome, which is an acceptance or refusal 8; of any other refusal
 -- its line alone. Document 01, the end of "Hand-worked table".
 -- Assumes nothing.
-use Rattle.std.specs.Prelude.{List, [], ◌∷◌, ◌++◌, ℕ}
+use Rattle.std.specs.Prelude.{Result, Ok, Err, List, [], ◌∷◌, ◌++◌, ℕ}
+use Rattle.refusals.specs.declared.Refusal.{Refusal}
 use Rattle.refusals.specs.declared.Refusal.TheVariants.{WrongLength}
 use Rattle.refusals.specs.Numbers.{Check, first_of}
 use Rattle.curve.specs.Codes.{point_count}
 use Rattle.curve.specs.Answers.{code_checks, symbol_checks}
 use Rattle.published.specs.Start.{step_count}
-use Rattle.answers.specs.declared.Decoded.{Decoded}
-use Rattle.answers.specs.declared.Decoded.TheVariants.{Accepted, Refused}
 use Rattle.voting.specs.Voting.{voted}
 use Rattle.decoder.specs.Decoding.{decoded}
 use Rattle.request.specs.Request.{line, Said, asks, nothing, reading}
@@ -16,9 +15,9 @@ use Rattle.report.specs.Report.{refuse_line, accept_line}
 use Rattle.steplines.specs.StepLines.{step_lines}
 
 -- the last line
-unfoldable pub last_line : Decoded → List ℕ → List ℕ
-last_line (Accepted count) message = accept_line count message
-last_line (Refused why) message = refuse_line why
+unfoldable pub last_line : Result ℕ Refusal → List ℕ → List ℕ
+last_line (Ok count) message = accept_line count message
+last_line (Err why) message = refuse_line why
 
 -- all lines of a full row of symbols
 unfoldable pub row_lines : ℕ → ℕ → List ℕ → List ℕ

@@ -4,7 +4,7 @@
 use files::read_full;
 use refusals::Refusal;
 use report::put_refusal;
-use request::{Reading, read_request};
+use request::{Asked, read_request};
 use std::io;
 use std::io::{Read, Write};
 
@@ -28,8 +28,8 @@ pub fn trace(text: &[u8], out: &mut [u8; TRACE_SIZE]) -> usize
 {
     let mut row = [0u8; 4096];
     match read_request(text, &mut row) {
-        Reading::Asks { q, u, count } => rows::answer(out, q, u, &row[..count]),
-        Reading::Nothing => put_refusal(out, 0, Refusal::WrongLength),
+        Some(Asked { q, u, count }) => rows::answer(out, q, u, &row[..count]),
+        None => put_refusal(out, 0, Refusal::WrongLength),
     }
 }
 

@@ -10,8 +10,7 @@ ghost use Rattle.decoder.specs.Decoding.{decoded};
 ghost use Rattle.trace.specs.Trace.{last_line, row_lines, answer as answer_lines};
 ghost use Rattle.trace.specs.Size.{last_size, trace_size, longest_trace};
 
-use answers::Decoded;
-use curve::{Code, Named};
+use curve::Code;
 use decoder::decode_row;
 use refusals::Refusal;
 use report::{put_acceptance, put_refusal};
@@ -21,13 +20,13 @@ use steps::advance;
 use symbols::{MOST_AREA, MOST_POINTS};
 
 // The last line, from what decoding answered and the message.
-fn put_decoded(out: &mut [u8], at: usize, answered: Decoded, message: &[u8]) -> usize
+fn put_decoded(out: &mut [u8], at: usize, answered: Result<usize, Refusal>, message: &[u8]) -> usize
     requires { at + length (last_line answered message.now) ≤ length out.old }
     ensures { Wrote out.old at (last_line answered message.now) out.new result }
 {
     match answered {
-        Decoded::Accepted(count) => put_acceptance(out, at, count, message),
-        Decoded::Refused(why) => put_refusal(out, at, why),
+        Ok(count) => put_acceptance(out, at, count, message),
+        Err(why) => put_refusal(out, at, why),
     }
 }
 
@@ -40,9 +39,8 @@ fn put_last(out: &mut [u8], at: usize, code: Code, row: &[u8], work: &mut [u8]) 
 {
     let mut message = [0u8; MOST_POINTS];
     let mut corrected = [0u8; MOST_POINTS];
-    let k = code.k;
     let answered = decode_row(code, row, work, &mut message, &mut corrected);
-    put_decoded(out, at, answered, &message[..k])
+    put_decoded(out, at, answered, &message[..code.k])
 }
 
 // All lines of a full row whose start stands in the work area.
@@ -80,7 +78,7 @@ pub fn answer(out: &mut [u8], q: usize, u: usize, row: &[u8]) -> usize
     ensures { Wrote out.old 0 (answer_lines q u row.now) out.new result }
 {
     match curve::code_of(q, u) {
-        Named::Code(code) => answer_under(out, code, row),
-        Named::Refused(why) => put_refusal(out, 0, why),
+        Ok(code) => answer_under(out, code, row),
+        Err(why) => put_refusal(out, 0, why),
     }
 }

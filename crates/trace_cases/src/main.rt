@@ -20,11 +20,8 @@ fn print_case<R: Env + Files + Print + Eprint>(rt: &R, i: usize) -> io::Result<(
 }
 
 fn main(rt: HostRuntime) -> io::Result<()> {
-    let count = files::word_count(&rt);
-    let mut i = 1;
-    while i < count {
+    for i in 1..files::word_count(&rt) {
         print_case(&rt, i)?;
-        i += 1;
     }
     Ok(())
 }

@@ -27,14 +27,32 @@ fn run(
     tell(rt, name, verify_bytes(block, payload, records, work))
 }
 
-// How many bytes a case lends: of the block, the payload, the records and the work area.
+// How many bytes a case lends of each.
 #[derive(Clone, Copy)]
-struct Lengths(usize, usize, usize, usize);
+struct Lengths {
+    block: usize,
+    payload: usize,
+    records: usize,
+    work: usize,
+}
 
 // The header of one row, and what it takes to verify that row.
 const HEADER: [u8; 8] = [0, 0, 0, 36, 1, 45, 0, 1];
 
-const ENOUGH: Lengths = Lengths(40, 20, 2, 1472);
+const ENOUGH: Lengths = Lengths {
+    block: 40,
+    payload: 20,
+    records: 2,
+    work: 1472,
+};
+
+// Enough of the block alone.
+const ALL_SHORT: Lengths = Lengths {
+    payload: 19,
+    records: 1,
+    work: 1471,
+    ..ENOUGH
+};
 
 // The header of 1,024 rows.
 const MOST_ROWS: [u8; 8] = [0, 0, 128, 4, 1, 45, 4, 0];
@@ -49,20 +67,16 @@ fn cut(
     work: &mut [u8],
     lengths: Lengths,
 ) -> io::Result<()>
-    requires lengths_in_bounds { (lengths.0 ≤ length block.now) × (lengths.1 ≤ length payload.now) }
-    requires lengths_in_bounds_2 { (lengths.2 ≤ length records.old) × (lengths.3 ≤ length work.old) }
+    requires inputs_long_enough { (lengths.block ≤ length block.now) × (lengths.payload ≤ length payload.now) }
+    requires areas_long_enough { (lengths.records ≤ length records.old) × (lengths.work ≤ length work.old) }
 {
-    let b = lengths.0;
-    let p = lengths.1;
-    let r = lengths.2;
-    let w = lengths.3;
     run(
         rt,
         name,
-        &block[..b],
-        &payload[..p],
-        &mut records[..r],
-        &mut work[..w],
+        &block[..lengths.block],
+        &payload[..lengths.payload],
+        &mut records[..lengths.records],
+        &mut work[..lengths.work],
     )
 }
 
@@ -70,16 +84,12 @@ fn cut(
 fn head(block: &mut [u8], header: [u8; 8])
     requires { 8 ≤ length block.old }
 {
-    let mut i = 0;
-    while i < 8 {
-        block[i] = header[i];
-        i += 1;
-    }
+    block[..8].copy_from_slice(&header);
 }
 
 // A case whose symbols are all 0, under a header that may be wrong.
 fn zeros(rt: &impl Print, name: &str, header: [u8; 8], lengths: Lengths) -> io::Result<()>
-    requires { (lengths.0 ≤ 32808) × (lengths.1 ≤ 20500) × (lengths.2 ≤ 2050) × (lengths.3 ≤ 1472) }
+    requires { (lengths.block ≤ 32808) × (lengths.payload ≤ 20500) × (lengths.records ≤ 2050) × (lengths.work ≤ 1472) }
 {
     let mut block = [0u8; 32808];
     head(&mut block, header);
@@ -92,21 +102,57 @@ fn zeros(rt: &impl Print, name: &str, header: [u8; 8], lengths: Lengths) -> io::
 // One row, and each input too short by a byte.
 fn one_row(rt: &impl Print) -> io::Result<()> {
     zeros(rt, "one row: ", HEADER, ENOUGH)?;
-    zeros(rt, "block of 39: ", HEADER, Lengths(39, 20, 2, 1472))?;
-    zeros(rt, "payload of 19: ", HEADER, Lengths(40, 19, 2, 1472))?;
-    zeros(rt, "half a record: ", HEADER, Lengths(40, 20, 1, 1472))?;
-    zeros(rt, "work of 1,471: ", HEADER, Lengths(40, 20, 2, 1471))
+    zeros(
+        rt,
+        "block of 39: ",
+        HEADER,
+        Lengths {
+            block: 39,
+            ..ENOUGH
+        },
+    )?;
+    zeros(
+        rt,
+        "payload of 19: ",
+        HEADER,
+        Lengths {
+            payload: 19,
+            ..ENOUGH
+        },
+    )?;
+    zeros(
+        rt,
+        "half a record: ",
+        HEADER,
+        Lengths {
+            records: 1,
+            ..ENOUGH
+        },
+    )?;
+    zeros(
+        rt,
+        "work of 1,471: ",
+        HEADER,
+        Lengths {
+            work: 1471,
+            ..ENOUGH
+        },
+    )
 }
 
 // Several too short at once.
 fn short_together(rt: &impl Print) -> io::Result<()> {
+    zeros(rt, "payload, records and work: ", HEADER, ALL_SHORT)?;
     zeros(
         rt,
-        "payload, records and work: ",
+        "records and work: ",
         HEADER,
-        Lengths(40, 19, 1, 1471),
-    )?;
-    zeros(rt, "records and work: ", HEADER, Lengths(40, 20, 1, 1471))
+        Lengths {
+            records: 1,
+            work: 1471,
+            ..ENOUGH
+        },
+    )
 }
 
 // Other headers, the last with all else too short.
@@ -114,12 +160,7 @@ fn other_headers(rt: &impl Print) -> io::Result<()> {
     zeros(rt, "length of 35: ", [0, 0, 0, 35, 1, 45, 0, 1], ENOUGH)?;
     zeros(rt, "version 2: ", [0, 0, 0, 36, 2, 45, 0, 1], ENOUGH)?;
     zeros(rt, "u of 44: ", [0, 0, 0, 36, 1, 44, 0, 1], ENOUGH)?;
-    zeros(
-        rt,
-        "everything: ",
-        [0, 0, 0, 36, 1, 44, 0, 1],
-        Lengths(40, 19, 1, 1471),
-    )
+    zeros(rt, "everything: ", [0, 0, 0, 36, 1, 44, 0, 1], ALL_SHORT)
 }
 
 // One row less than the fewest, one more than the most, and the most.
@@ -128,30 +169,43 @@ fn many_rows(rt: &impl Print) -> io::Result<()> {
         rt,
         "0 rows: ",
         [0, 0, 0, 4, 1, 45, 0, 0],
-        Lengths(8, 0, 2050, 1472),
+        Lengths {
+            block: 8,
+            payload: 0,
+            records: 2050,
+            ..ENOUGH
+        },
     )?;
     zeros(
         rt,
         "1,025 rows: ",
         [0, 0, 128, 36, 1, 45, 4, 1],
-        Lengths(32808, 20500, 2050, 1472),
+        Lengths {
+            block: 32808,
+            payload: 20500,
+            records: 2050,
+            ..ENOUGH
+        },
     )?;
     zeros(
         rt,
         "1,024 rows: ",
         MOST_ROWS,
-        Lengths(32776, 20480, 2048, 1472),
+        Lengths {
+            block: 32776,
+            payload: 20480,
+            records: 2048,
+            ..ENOUGH
+        },
     )
 }
 
 // In each row the first symbol is the row's number modulo 16.
 fn damage(block: &mut [u8])
-    requires { 32776 ≤ length block.old }
+    requires { 8 ≤ length block.old }
 {
-    let mut r = 0;
-    while r < 1024 {
-        block[8 + 32 * r] = (r % 16 * 16) as u8;
-        r += 1;
+    for (r, row) in block[8..].chunks_exact_mut(32).enumerate() {
+        row[0] = (r % 16 * 16) as u8;
     }
 }
 

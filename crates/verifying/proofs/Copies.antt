@@ -4,19 +4,17 @@ use mathlib.Core.Path.{◌≡◌, refl, sym, ap, ◌∙◌}
 use mathlib.Core.Logic.{⊎_elim}
 use mathlib.Core.Bool.{Bool, true, false}
 use mathlib.Core.List.{List}
-use Prim.Native.Nat.{ℕ, zero, suc, ◌+◌, ◌/◌, ◌≤◌, ◌<◌, zero-le}
+use Prim.Native.Nat.{ℕ, zero, suc, ◌+◌, ◌≤◌, ◌<◌, zero-le}
 use native.Mathlib.Omega.{arith}
 use lib.Dec.{eqb}
-use lib.ListN.{length}
 use borrow.Author.Tests.{eqb-true, not-false}
+use Rattle.std.specs.Prelude.{Result, Ok, Err}
 use Rattle.refusals.specs.declared.Refusal.{Refusal}
 use Rattle.refusals.specs.Numbers.{first_of}
 use Rattle.refusals.proofs.Checks.{Passes, clear, refused, passed, decide_checks}
 use Rattle.lists.specs.Tables.{from, tab}
 use Rattle.lists.proofs.Numbers.{same_or_not}
 use Rattle.lists.proofs.Same.{same_lists}
-use Rattle.answers.specs.declared.Decoded.{Decoded}
-use Rattle.answers.specs.declared.Decoded.TheVariants.{Accepted, Refused as Declined}
 use Rattle.judging.specs.Judging.{count_of}
 use Rattle.voting.specs.Voting.{voted}
 use Rattle.decoder.specs.Decoding.{decoded}
@@ -24,23 +22,22 @@ use Rattle.layout.specs.Layout.{tape_q, tape_u, row_count, block_row, payload_ro
 use Rattle.lists.specs.Same.{same_list}
 use Rattle.taperow.specs.Reading.{row_record}
 use Rattle.rowstate.specs.Outcome.{outcome}
-use Rattle.verifying.specs.Verification.{verdict_from, all_records, verify_checks, verify_answer}
+use Rattle.verifying.specs.Verification.{verdict_from, all_records}
 use Rattle.verdict.specs.Checks.{checks_for}
-use Rattle.verifying.specs.AsBytes.{byte_checks, verify_bytes_answer}
 use Rattle.verifying.specs.Copy.{ReadAs, CopyOf}
 use Rattle.answers.specs.declared.Record.{Record}
-use Rattle.answers.specs.declared.Verified.{Verified}
-use Rattle.answers.specs.declared.Verified.TheVariants.{Copied, Refused}
+use Rattle.answers.specs.declared.Verdict.{Verdict}
+use Rattle.answers.specs.declared.Verdict.TheVariants.{Copied}
 use Rattle.verdict.proofs.Verdicts.{by_state}
 use Rattle.taperow.proofs.Outcomes.{accepted-within}
 
 -- only an acceptance of the same message has state 0
-state-equal : (answer : Decoded) (equal : Bool) → (outcome answer equal).state ≡ 0
-    → ((count : ℕ) × (answer ≡ Accepted count)) × (equal ≡ true)
+state-equal : (answer : Result ℕ Refusal) (equal : Bool) → (outcome answer equal).state ≡ 0
+    → ((count : ℕ) × (answer ≡ Ok count)) × (equal ≡ true)
 unfolding outcome
-state-equal (Accepted count) true is = ((count, refl), refl)
-state-equal (Accepted count) false is = absurd (omega (arith, is))
-state-equal (Declined why) equal is = absurd (omega (arith, is))
+state-equal (Ok count) true is = ((count, refl), refl)
+state-equal (Ok count) false is = absurd (omega (arith, is))
+state-equal (Err why) equal is = absurd (omega (arith, is))
 
 -- a row in state 0 decodes to its payload's symbols
 equal-reads : (block payload : List ℕ) (r : ℕ) → (row_record block payload r).state ≡ 0
@@ -60,11 +57,11 @@ equal-reads block payload r is =
     }
 
 -- a row that settles the verdict otherwise rules Copied out
-first-equal : (r total : ℕ) (equal : Verified) (zero one : Bool) → by_state zero one r equal ≡ Copied total
+first-equal : (r total : ℕ) (equal : Verdict) (zero one : Bool) → by_state zero one r equal ≡ Copied total
     → (zero ≡ true) × (equal ≡ Copied total)
 first-equal r total equal true one copied = (refl, copied)
-first-equal r total equal false true copied = let z : ◌≡◌ {A = ℕ} 0 1 = cc in absurd (omega arith)
-first-equal r total equal false false copied = let z : ◌≡◌ {A = ℕ} 0 1 = cc in absurd (omega arith)
+first-equal r total equal false true copied = cc
+first-equal r total equal false false copied = cc
 
 -- where the verdict over the records from row i on is Copied, each of them has state 0
 all-equal : (f : ℕ → Record) (n i r total total' : ℕ) → verdict_from r total (from i n f) ≡ Copied total' → (j : ℕ) → i ≤ j
@@ -80,17 +77,20 @@ all-equal f (suc n) i r total total' copied j low high =
 
 -- Copied is answered only for a copy, however many records and places are lent
 pub copied-only : (block payload : List ℕ) (records work total : ℕ)
-    → first_of (checks_for block payload records work) Refused (verdict_from 0 0 (all_records block payload)) ≡ Copied total
+    → first_of (checks_for block payload records work) Err (Ok (verdict_from 0 0 (all_records block payload))) ≡ Ok (Copied total)
     → CopyOf block payload
 unfolding checks_for all_records tab
 copied-only block payload records work total copied =
-    ⊎_elim (λ refusing. never refusing.0 (sym (refused Refused _ refusing.1) ∙ copied))
-    (λ passing. copy passing (sym (passed Refused _ passing) ∙ copied))
+    ⊎_elim (λ refusing. never refusing.0 (sym (refused Err _ refusing.1) ∙ copied))
+    (λ passing. copy passing (same (sym (passed Err _ passing) ∙ copied)))
     (decide_checks (checks_for block payload records work))
   where
     -- a refusal is not Copied
-    never : (why : Refusal) → Refused why ≡ Copied total → CopyOf block payload
-    never why same = let z : ◌≡◌ {A = ℕ} 0 1 = cc in absurd (omega arith)
+    never : (why : Refusal) → ◌≡◌ {A = Result Verdict Refusal} (Err why) (Ok (Copied total)) → CopyOf block payload
+    never why e = cc
+
+    same : {v : Verdict} → ◌≡◌ {A = Result Verdict Refusal} (Ok v) (Ok (Copied total)) → v ≡ Copied total
+    same e = cc
 
     -- where no check holds, every row is in state 0
     copy : Passes (checks_for block payload records work)
@@ -104,16 +104,3 @@ copied-only block payload records work total copied =
               equal-reads block payload r
               (all-equal (row_record block payload) (row_count block) 0 0 0 total all r zero-le (omega arith));
         }
-
--- the reading room's question: Copied means that every row decodes within reach to exactly the payload's symbols
-pub copied-is-a-copy : (block payload : List ℕ) (records : List Record) (work : List ℕ) (total : ℕ)
-    → verify_answer block payload records work ≡ Copied total → CopyOf block payload
-unfolding verify_answer verify_checks checks_for
-copied-is-a-copy block payload records work total copied = copied-only block payload (length records) (length work) total copied
-
--- the same where a record is two bytes
-pub copied-bytes-is-a-copy : (block payload records work : List ℕ) (total : ℕ)
-    → verify_bytes_answer block payload records work ≡ Copied total → CopyOf block payload
-unfolding verify_bytes_answer byte_checks
-copied-bytes-is-a-copy block payload records work total copied =
-    copied-only block payload (length records / 2) (length work) total copied

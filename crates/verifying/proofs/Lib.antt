@@ -1,6 +1,5 @@
 pub mod Rounds
-pub mod Ends
 pub mod Copies
 pub mod NearCopies
-pub mod Settled
 pub mod InNumbers
+pub mod Settled

@@ -3,12 +3,13 @@
 use mathlib.Core.Path.{◌≡◌, sym, ap, ◌∙◌}
 use mathlib.Core.Logic.{⊎_elim}
 use mathlib.Core.List.{List}
-use Prim.Native.Nat.{ℕ, zero, suc, ◌+◌, ◌/◌, ◌≤◌, ◌<◌}
+use Prim.Native.Nat.{ℕ, zero, suc, ◌+◌, ◌≤◌, ◌<◌}
 use native.Mathlib.Nat.{zero-add}
 use native.Mathlib.Omega.{arith}
 use lib.Dec.{eqb}
-use lib.ListN.{length, get_or}
+use lib.ListN.{get_or}
 use borrow.Author.Tests.{eq-eqb}
+use Rattle.std.specs.Prelude.{Result, Ok, Err}
 use Rattle.refusals.specs.declared.Refusal.{Refusal}
 use Rattle.refusals.specs.Numbers.{first_of}
 use Rattle.refusals.proofs.Checks.{refused, passed, decide_checks}
@@ -21,12 +22,11 @@ use Rattle.laying.proofs.CodeRow.{message-of}
 use Rattle.taperow.specs.Reading.{row_record}
 use Rattle.answers.specs.declared.Record.{Record}
 use Rattle.taperow.proofs.NearRows.{row_of, near-row}
-use Rattle.verifying.specs.Verification.{verdict_from, all_records, verify_checks, verify_answer}
+use Rattle.verifying.specs.Verification.{verdict_from, all_records}
 use Rattle.verdict.specs.Checks.{checks_for}
-use Rattle.verifying.specs.AsBytes.{byte_checks, verify_bytes_answer}
 use Rattle.verifying.specs.Copy.{CopyOf, NearCopy, differing_places, CopiedExactly}
-use Rattle.answers.specs.declared.Verified.{Verified}
-use Rattle.answers.specs.declared.Verified.TheVariants.{Copied, Refused}
+use Rattle.answers.specs.declared.Verdict.{Verdict}
+use Rattle.answers.specs.declared.Verdict.TheVariants.{Copied}
 use Rattle.verdict.proofs.Start.{none-holds}
 use Rattle.verdict.proofs.Verdicts.{by_state}
 use Rattle.verifying.proofs.Copies.{copied-only}
@@ -62,8 +62,8 @@ module _ (block payload : List ℕ) (bytes : (i : ℕ) → get_or block i 0 < 25
   -- however many records and places are lent
   module _ (records work : ℕ) where
     -- what is answered
-    abbrev answer : Verified
-    answer = first_of (checks_for block payload records work) Refused (verdict_from 0 0 (all_records block payload))
+    abbrev answer : Result Verdict Refusal
+    answer = first_of (checks_for block payload records work) Err (Ok (verdict_from 0 0 (all_records block payload)))
 
     -- a copy is a near copy
     near-copy : CopyOf block payload → NearCopy block payload
@@ -74,36 +74,24 @@ module _ (block payload : List ℕ) (bytes : (i : ℕ) → get_or block i 0 < 25
     }
 
     -- where Copied is answered, all places that differ are told
-    all_told : NearCopy block payload → (places : ℕ) → answer ≡ Copied places → places ≡ differing_places block payload
+    all_told : NearCopy block payload → (places : ℕ) → answer ≡ Ok (Copied places) → places ≡ differing_places block payload
     all_told N places is =
-        ⊎_elim (λ refusing. never refusing.0 (sym (refused Refused _ refusing.1) ∙ is))
-        (λ passing. same (sym is ∙ passed Refused _ passing ∙ verdict-near N))
+        ⊎_elim (λ refusing. never refusing.0 (sym (refused Err _ refusing.1) ∙ is))
+        (λ passing. same (sym is ∙ passed Err _ passing ∙ ap Ok (verdict-near N)))
         (decide_checks (checks_for block payload records work))
       where
         -- a refusal is not Copied
-        never : (why : Refusal) → Refused why ≡ Copied places → places ≡ differing_places block payload
-        never why e = let z : ◌≡◌ {A = ℕ} 0 1 = cc in absurd (omega arith)
+        never : (why : Refusal) → ◌≡◌ {A = Result Verdict Refusal} (Err why) (Ok (Copied places)) → places ≡ differing_places block payload
+        never why e = cc
 
-        same : {n : ℕ} → Copied places ≡ Copied n → places ≡ n
+        same : {n : ℕ} → ◌≡◌ {A = Result Verdict Refusal} (Ok (Copied places)) (Ok (Copied n)) → places ≡ n
         same e = cc
 
-    copied-exactly : CopiedExactly block payload records work answer
+    pub copied-exactly : CopiedExactly block payload records work answer
     copied-exactly = record {
       only = λ places is.
           let N = near-copy (copied-only block payload records work places is) in
           (N, all_told N places is);
       always = λ N enough room.
-          passed Refused _ (none-holds block payload records work N.header N.messages enough room) ∙ verdict-near N;
+          passed Err _ (none-holds block payload records work N.header N.messages enough room) ∙ ap Ok (verdict-near N);
     }
-
-  -- a list of records
-  pub verify-exactly : (records : List Record) (work : List ℕ)
-      → CopiedExactly block payload (length records) (length work) (verify_answer block payload records work)
-  unfolding verify_answer verify_checks checks_for
-  verify-exactly records work = copied-exactly (length records) (length work)
-
-  -- the same where a record is two bytes
-  pub verify-bytes-exactly : (records work : List ℕ)
-      → CopiedExactly block payload (length records / 2) (length work) (verify_bytes_answer block payload records work)
-  unfolding verify_bytes_answer byte_checks
-  verify-bytes-exactly records work = copied-exactly (length records / 2) (length work)

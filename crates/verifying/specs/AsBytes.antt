@@ -1,6 +1,7 @@
 -- Verifying with the records in a lent list of bytes, two bytes a record. Document 01, "Block and verification".
 -- Assumes nothing.
-use Rattle.std.specs.Prelude.{List, [], ◌∷◌, ◌++◌, ℕ, ◌*◌, ◌/◌, length, drop}
+use Rattle.std.specs.Prelude.{List, [], ◌∷◌, ◌++◌, ℕ, ◌*◌, ◌/◌, length, drop, Result, Ok, Err}
+use Rattle.refusals.specs.declared.Refusal.{Refusal}
 use Rattle.refusals.specs.Numbers.{Check, first_of}
 use Rattle.published.specs.Picture.{area_size}
 use Rattle.voting.specs.Voting.{cleared}
@@ -8,8 +9,7 @@ use Rattle.layout.specs.Layout.{tape_q, row_count}
 use Rattle.verifying.specs.Verification.{verdict_from, all_records}
 use Rattle.verdict.specs.Checks.{checks_for}
 use Rattle.answers.specs.declared.Record.{Record}
-use Rattle.answers.specs.declared.Verified.{Verified}
-use Rattle.answers.specs.declared.Verified.TheVariants.{Refused}
+use Rattle.answers.specs.declared.Verdict.{Verdict}
 
 -- a record's bytes: first its state, then its count
 unfoldable pub record_bytes : List Record → List ℕ
@@ -20,9 +20,9 @@ record_bytes (x ∷ xs) = x.state ∷ x.count ∷ record_bytes xs
 unfoldable pub byte_checks : List ℕ → List ℕ → List ℕ → List ℕ → List Check
 byte_checks block payload records work = checks_for block payload (length records / 2) (length work)
 
-unfoldable pub verify_bytes_answer : List ℕ → List ℕ → List ℕ → List ℕ → Verified
+unfoldable pub verify_bytes_answer : List ℕ → List ℕ → List ℕ → List ℕ → Result Verdict Refusal
 verify_bytes_answer block payload records work =
-    first_of (byte_checks block payload records work) Refused (verdict_from 0 0 (all_records block payload))
+    first_of (byte_checks block payload records work) Err (Ok (verdict_from 0 0 (all_records block payload)))
 
 -- R records of two bytes, and the bytes behind them as they were
 unfoldable pub verify_bytes_records : List ℕ → List ℕ → List ℕ → List ℕ → List ℕ

@@ -1,3 +1,4 @@
 pub mod Verification
 pub mod AsBytes
 pub mod Copy
+pub mod Stores

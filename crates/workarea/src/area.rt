@@ -34,7 +34,7 @@ pub fn area_size(q: usize) -> usize
     4 * (q * q) * width_of(q)
 }
 
-// Where row r of polynomial p starts.
+// Where row r of polynomial p starts. Two numbers and no `Row`, since most callers have them as numbers: a `Row` is four lines more.
 #[tactic(auto, using(crate::proofs::Sizes::sizes, crate::proofs::Sizes::row_small), unfolding(crate::specs::Area::row_place))]
 pub fn row_place(q: usize, p: usize, r: usize) -> usize
     requires known { Known q }

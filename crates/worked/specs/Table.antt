@@ -1,6 +1,6 @@
 -- The hand-worked table of document 01: the entries marked P, together, as one record over the definitions.
 -- Assumes nothing.
-use Rattle.std.specs.Prelude.{◌≡◌, Bool, true, false, cond, ◌&&◌, ◌||◌, List, [], ◌∷◌, map, ℕ, ◌+◌, ◌*◌, ◌/◌, ◌%◌, eqb, pos, negsuc, get_or}
+use Rattle.std.specs.Prelude.{◌≡◌, Bool, true, false, cond, ◌&&◌, ◌||◌, List, [], ◌∷◌, map, ℕ, ◌+◌, ◌*◌, ◌/◌, ◌%◌, eqb, pos, negsuc, get_or, Ok, Err}
 use Rattle.algebra.specs.Weights.{x_power, y_power, gap}
 use Rattle.lists.specs.Tables.{tab}
 use Rattle.symbols.specs.Rule.{symbols, number, symbol}
@@ -10,7 +10,6 @@ use Rattle.encoder.specs.Encoding.{row_numbers}
 use Rattle.published.specs.Start.{width, table, h, start, f, g}
 use Rattle.published.specs.Pairing.{Pairing, pairing, partner_of, k_of}
 use Rattle.steps.specs.Stop.{state_after}
-use Rattle.answers.specs.declared.Decoded.TheVariants.{Accepted, Refused}
 use Rattle.voting.specs.Voting.{voted}
 use Rattle.decoder.specs.Decoding.{decoded}
 
@@ -97,7 +96,7 @@ pub record Table : Type 0 where
   pub partner-of-weight-1 : partner_of 2 (2 * 0 + 3 * 0 + 1) ≡ 1
   pub k-of-weight-1 : k_of 2 (2 * 0 + 3 * 0 + 1) ≡ negsuc 0
   -- Row 1 1 1 1 1 1 1 0: accepted, 1 0 0 0, count 1
-  pub accepted-with : decoded 2 4 (1 ∷ 1 ∷ 1 ∷ 1 ∷ 1 ∷ 1 ∷ 1 ∷ 0 ∷ []) ≡ Accepted 1
+  pub accepted-with : decoded 2 4 (1 ∷ 1 ∷ 1 ∷ 1 ∷ 1 ∷ 1 ∷ 1 ∷ 0 ∷ []) ≡ Ok 1
   pub accepted-as : voted 2 4 (1 ∷ 1 ∷ 1 ∷ 1 ∷ 1 ∷ 1 ∷ 1 ∷ 0 ∷ []) ≡ 1 ∷ 0 ∷ 0 ∷ 0 ∷ []
   -- Row 1 1 0 0 0 0 0 0: refused 8
-  pub refused : decoded 2 4 (1 ∷ 1 ∷ 0 ∷ 0 ∷ 0 ∷ 0 ∷ 0 ∷ 0 ∷ []) ≡ Refused BeyondReach
+  pub refused : decoded 2 4 (1 ∷ 1 ∷ 0 ∷ 0 ∷ 0 ∷ 0 ∷ 0 ∷ 0 ∷ []) ≡ Err BeyondReach

@@ -2,12 +2,13 @@
 -- Assumes nothing.
 use mathlib.Core.Path.{ap, ◌≡◌, sym, ◌∙◌}
 use mathlib.Core.Bool.{not, true}
+use Prim.Native.Nat.{◌<◌}
 use borrow.Author.Tests.{not-false}
 use Rattle.std.specs.Prelude.{Err}
-use Rattle.symbols.specs.Rule.{is_known}
+use Rattle.symbols.specs.Rule.{Known, is_known}
 use Rattle.symbols.proofs.Bytes.{test_known}
 use Rattle.refusals.proofs.Checks.{here, later, clear, done, refused, passed}
-use Rattle.curve.specs.Codes.{is_code}
+use Rattle.curve.specs.Codes.{point_count, is_code}
 use Rattle.curve.specs.Answers.{code_checks, named}
 use Rattle.curve.proofs.CodeLaws.{code_below}
 use Rattle.curve.proofs.code_of.Goals as goal
@@ -38,11 +39,15 @@ returns-then-not-is_code c =
 pub point_count-requires : goal.point_count-requires
 point_count-requires c = test_known _ (known (goal.at.point_count-requires c).Else-not-is_known)
 
+-- a code's k and reach are asked for where q is known and u below n
+coded : (c : Else-not-is_code) → Known c.args.q × (c.args.u < point_count c.args.q)
+coded c = (test_known _ (sym c.is_known.ensures ∙ not-false _ (ap not c.if-not-is_known.false)), code_below _ _ (code c))
+
 pub dimension-requires : goal.dimension-requires
-dimension-requires c = (test_known _ (known (goal.at.dimension-requires c).Else-not-is_known), code_below _ _ (code (goal.at.dimension-requires c).Else-not-is_code))
+dimension-requires c = coded (goal.at.dimension-requires c).Else-not-is_code
 
 pub reach-requires : goal.reach-requires
-reach-requires c = (test_known _ (known (goal.at.reach-requires c).Else-not-is_known), code_below _ _ (code (goal.at.reach-requires c).Else-not-is_code))
+reach-requires c = coded (goal.at.reach-requires c).Else-not-is_code
 
 pub returns : goal.returns
 unfolding named code_checks

@@ -19,24 +19,32 @@ message c =
     record {
       known = c.requires.known;
       code = c.requires.accepted;
-      whole = (let it : length c.args.message.now ≡ dimension c.args.code.q c.args.code.u = c.if-message-code.false ∙ c.requires.k-is in it);
+      whole = c.if-message-code.false ∙ c.requires.k-is;
       all-symbols = not-true _ (sym c.all_symbols.ensures ∙ not-false _ (ap not c.if-not-all_symbols.false));
     }
 
 pub returns-then-message-code : goal.returns-then-message-code
-returns-then-message-code c = let all = refused-by-message _ _ _ _ (valid-passes c.requires) (wrong-length _ _ _ (rw c.requires.k-is at c.if-message-code.true)) in record { value = all.0; output_left = all.1 }
+returns-then-message-code c =
+    let all =
+    refused-by-message _ _ _ _ (valid-passes c.requires)
+    (wrong-length _ _ _ (rw c.requires.k-is at c.if-message-code.true)) in
+    record { value = all.0; output_left = all.1 }
 
 pub returns-then-not-all_symbols : goal.returns-then-not-all_symbols
-returns-then-not-all_symbols c = let all = refused-by-message _ _ _ _ (valid-passes c.requires)
-    (no_symbol _ _ _ (long (goal.at.returns-then-not-all_symbols c).Else-message-code) (not-false _ (sym c.all_symbols.ensures ∙ not-true _ (ap not c.if-not-all_symbols.true)))) in record { value = all.0; output_left = all.1 }
+returns-then-not-all_symbols c =
+    let measured = long (goal.at.returns-then-not-all_symbols c).Else-message-code in
+    let beyond = not-false _ (sym c.all_symbols.ensures ∙ not-true _ (ap not c.if-not-all_symbols.true)) in
+    let all = refused-by-message _ _ _ _ (valid-passes c.requires) (no_symbol _ _ _ measured beyond) in
+    record { value = all.0; output_left = all.1 }
 
 pub returns-then-output-code : goal.returns-then-output-code
-returns-then-output-code c = let all = refused-by-output _ _ _ _ (valid-passes c.requires) (given-passes (message (goal.at.returns-then-output-code c).Else-not-all_symbols)) (rw c.requires.n-is at c.if-output-code.true) in record { value = all.0; output_left = all.1 }
+returns-then-output-code c =
+    let symbols = given-passes (message (goal.at.returns-then-output-code c).Else-not-all_symbols) in
+    let all = refused-by-output _ _ _ _ (valid-passes c.requires) symbols (rw c.requires.n-is at c.if-output-code.true) in
+    record { value = all.0; output_left = all.1 }
 
-pub returns-clause-value : goal.returns-clause-value
-returns-clause-value c = let answer = not-refused _ _ _ _ (valid-passes c.requires) (given-passes (message (goal.at.returns-clause-value c).Else-not-all_symbols)) (rw c.requires.n-is at c.if-output-code.false) in
-    answer.0
-
-pub returns-clause-output_left : goal.returns-clause-output_left
-returns-clause-output_left c = let answer = not-refused _ _ _ _ (valid-passes c.requires) (given-passes (message (goal.at.returns-clause-output_left c).Else-not-all_symbols)) (rw c.requires.n-is at c.if-output-code.false) in
-    c.encode_row.ensures ∙ answer.1
+pub returns : goal.returns
+returns c =
+    let symbols = given-passes (message (goal.at.returns c).Else-not-all_symbols) in
+    let all = not-refused _ _ _ _ (valid-passes c.requires) symbols (rw c.requires.n-is at c.if-output-code.false) in
+    record { value = all.0; output_left = c.encode_row.ensures ∙ all.1 }

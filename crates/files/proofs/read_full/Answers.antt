@@ -1,20 +1,17 @@
 -- `files::read_full` meets its contract: the goals that the check leaves open. Assumes nothing.
-use Rattle.std.proofs.Common.{◌≡◌, ℕ, ◌+◌, ◌-◌, ◌≤◌, List, ◌++◌, arith, length, take, drop, sym, ap, ◌∙◌, subst, le_refl, drop_at, length-take-le}
+use Rattle.std.proofs.Common.{◌≡◌, ℕ, ◌+◌, ◌-◌, ◌≤◌, List, ◌++◌, arith, length, take, sym, subst, le_refl}
+use Rattle.std.proofs.lemmas.Grind.{common_steps}
 use Rattle.std.proofs.lemmas.Slice.{take-put_mid_below}
 use Rattle.std.specs.Io.KnownBytes.{Consumes}
 use Rattle.std.proofs.KnownBytes.{Consumes-trans}
-use borrow.Rule.Slice.PartMut.{put_mid, post_of}
-use lib.Seq.{take-add, take-append-le}
+use borrow.Rule.Slice.PartMut.{put_mid}
+use lib.Seq.{take-add}
 use Rattle.files.proofs.read_full.Goals as goal
 
 -- what stood at the start, and then what was read
 take-put_mid_more : (a k n : ℕ) (xs ys : List ℕ) → a ≤ length xs → n ≤ length ys → take (a + n) (put_mid a k xs ys) ≡ take a xs ++ take n ys
 take-put_mid_more a k n xs ys within fits =
-    let after = post_of a k xs in
-    take-add a n (put_mid a k xs ys)
-    ∙ ap (λ m. m ++ take n (drop a (put_mid a k xs ys))) (take-put_mid_below a k xs ys a (le_refl a) within)
-    ∙ ap (λ m. take a xs ++ take n m) (drop_at (take a xs) (ys ++ after) a (length-take-le a xs within))
-    ∙ ap (λ m. take a xs ++ m) (take-append-le n ys after fits)
+    rw (take-add a n (put_mid a k xs ys), take-put_mid_below a k xs ys a (le_refl a) within) (grind (arith, common_steps))
 
 pub loop-done-preserved : goal.loop-done-preserved
 loop-done-preserved g c =

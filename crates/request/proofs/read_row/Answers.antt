@@ -23,11 +23,12 @@ loop-found-preserved c =
       room = omega (arith, found.later);
       within = simp length-set (omega arith);
       so_far =
-          row_more c.args.text.now c.loop-found.row c.args.from c.loop-found.at c.in-Some.found.next c.loop-found.count c.in-Some.found.value room
-          c.loop-found.invariant.so_far found.numbers;
+          row_more c.args.text.now c.loop-found.row c.args.from c.loop-found.at c.in-Some.found.next c.loop-found.count
+          c.in-Some.found.value room c.loop-found.invariant.so_far found.numbers;
     }
 
 pub returns-clause-row_after : goal.returns-clause-row_after
 unfolding FoundIn
 returns-clause-row_after c =
-    row-whole c.args.text.now c.loop-found.row c.args.from c.loop-found.at c.loop-found.count c.loop-found.invariant.so_far c.in_default.ensures
+    row-whole c.args.text.now c.loop-found.row c.args.from c.loop-found.at c.loop-found.count c.loop-found.invariant.so_far
+    c.in_default.ensures

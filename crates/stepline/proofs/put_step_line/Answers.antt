@@ -20,5 +20,6 @@ put_step-requires c =
 pub returns : goal.returns
 returns c =
     λ state shows vote.
-    rw (line-is c.args.q c.args.u c.args.s state c.then_some-vote.ensures c.is_voted.ensures vote (c.read_degrees.ensures state.polys shows))
+    rw (line-is c.args.q c.args.u c.args.s state c.then_some-vote.ensures c.is_voted.ensures vote
+    (c.read_degrees.ensures state.polys shows))
     at c.put_step.ensures

@@ -23,7 +23,7 @@ lines_fit : (c : At-loop-t) (row : List ℕ)
     → Room c.args.page.now (step_lines c.args.q c.args.u row c.loop-t.t)
 lines_fit c row =
     let a = c.args in
-    let few : c.loop-t.t ≤ step_count a.q = omega (arith, c.loop-t.invariant.0, c.step_count-count.ensures) in
+    let few : c.loop-t.t ≤ step_count a.q = omega (arith, c.loop-t.auto, c.step_count-count.ensures) in
     omega (arith, length-steps a.q a.u row c.loop-t.t, mul-le-mul_right (step_size a.q) few, c.requires.known.2)
 
 line-fits : (c : At-loop-t) → c.loop-t.t < step_count c.args.q
@@ -31,7 +31,7 @@ line-fits : (c : At-loop-t) → c.loop-t.t < step_count c.args.q
 line-fits c more =
     let a = c.args in
     let begun = c.requires.started in
-    let reached = c.loop-t.invariant.4 begun.row begun.shows in
+    let reached = c.loop-t.invariant.3 begun.row begun.shows in
     let lines = length-steps a.q a.u begun.row c.loop-t.t in
     let room : (c.loop-t.t + 1) * step_size a.q ≤ step_count a.q * step_size a.q = mul-le-mul_right (step_size a.q) (omega arith) in
     omega (arith, lines, room, reached.lines.wrote.place, reached.lines.same_length, c.requires.known.2)
@@ -48,7 +48,6 @@ loop-t-init c =
     let a = c.args in
     let known = c.requires.known.0 in
     let heights = c.start_heights-heights.ensures in (
-      omega arith,
       refl,
       start-many a.q c.start_heights-heights.result known heights,
       heights.long,
@@ -60,37 +59,30 @@ loop-t-init c =
     )
 
 pub put_step_line-requires-clause-area : goal.put_step_line-requires-clause-area
-put_step_line-requires-clause-area c = let a = c.args in
-    let begun = c.requires.started in
-    let weight = weight_is a.q c.loop-t.t c.step_count-count.ensures in
-    let after = next-state a.q a.u begun.row c.loop-t.t _ (step-due (goal.at.put_step_line-requires-clause-area c).After-take_step-vote) weight (c.loop-t.invariant.4 begun.row begun.shows)
-    c.take_step-vote.ensures.stepped in
-    area_of c.requires.known.0 (omega (arith, c.requires.known.1, c.loop-t.invariant.1, c.take_step-vote.auto.work))
+put_step_line-requires-clause-area c =
+    area_of c.requires.known.0 (omega (arith, c.requires.known.1, c.loop-t.invariant.0, c.take_step-vote.auto.work))
 
 pub put_step_line-requires-clause-s_bound : goal.put_step_line-requires-clause-s_bound
-put_step_line-requires-clause-s_bound c = let a = c.args in
-    let begun = c.requires.started in
-    let weight = weight_is a.q c.loop-t.t c.step_count-count.ensures in
-    let after = next-state a.q a.u begun.row c.loop-t.t _ (step-due (goal.at.put_step_line-requires-clause-s_bound c).After-take_step-vote) weight (c.loop-t.invariant.4 begun.row begun.shows)
-    c.take_step-vote.ensures.stepped in
-    (omega (arith, weight), line-fits (goal.at.put_step_line-requires-clause-s_bound c).At-loop-t (step-due (goal.at.put_step_line-requires-clause-s_bound c).After-take_step-vote))
+put_step_line-requires-clause-s_bound c =
+    let weight = weight_is c.args.q c.loop-t.t c.step_count-count.ensures in
+    let taken = step-due (goal.at.put_step_line-requires-clause-s_bound c).After-take_step-vote in
+    (omega (arith, weight), line-fits (goal.at.put_step_line-requires-clause-s_bound c).At-loop-t taken)
 
 pub put_step_line-requires-clause-shown : goal.put_step_line-requires-clause-shown
-put_step_line-requires-clause-shown c = let a = c.args in
+put_step_line-requires-clause-shown c =
+    let a = c.args in
     let begun = c.requires.started in
-    let weight = weight_is a.q c.loop-t.t c.step_count-count.ensures in
-    let after = next-state a.q a.u begun.row c.loop-t.t _ (step-due (goal.at.put_step_line-requires-clause-shown c).After-take_step-vote) weight (c.loop-t.invariant.4 begun.row begun.shows)
-    c.take_step-vote.ensures.stepped in
+    let after = next-state a.q a.u begun.row c.loop-t.t _ (step-due (goal.at.put_step_line-requires-clause-shown c).After-take_step-vote)
+    (weight_is a.q c.loop-t.t c.step_count-count.ensures) (c.loop-t.invariant.3 begun.row begun.shows) c.take_step-vote.ensures.stepped in
     record { state = _; shows = after.0; voted = after.1 }
 
 pub loop-t-preserved : goal.loop-t-preserved
 loop-t-preserved c =
     let a = c.args in (
-      omega (arith, c.loop-t-test.true),
-      c.take_step-vote.auto.work ∙ c.loop-t.invariant.1,
+      c.take_step-vote.auto.work ∙ c.loop-t.invariant.0,
       c.take_step-vote.ensures.heights_left,
-      c.take_step-vote.auto.heights ∙ c.loop-t.invariant.3,
+      c.take_step-vote.auto.heights ∙ c.loop-t.invariant.2,
       λ row shows. reached-more a.q a.u row c.loop-t.t _ (step-due (goal.at.loop-t-preserved c).After-take_step-vote)
-          (weight_is a.q c.loop-t.t c.step_count-count.ensures) (lines_fit (goal.at.loop-t-preserved c).At-loop-t row) (c.loop-t.invariant.4 row shows)
+          (weight_is a.q c.loop-t.t c.step_count-count.ensures) (lines_fit (goal.at.loop-t-preserved c).At-loop-t row) (c.loop-t.invariant.3 row shows)
           c.take_step-vote.ensures.stepped c.put_step_line.ensures,
     )

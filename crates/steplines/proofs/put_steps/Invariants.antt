@@ -3,7 +3,7 @@
 -- Assumes nothing.
 use mathlib.Core.Path.{◌≡◌}
 use mathlib.Core.List.{List}
-use Prim.Native.Nat.{ℕ, ◌-◌, ◌≤◌}
+use Prim.Native.Nat.{ℕ}
 use lib.ListN.{length}
 use Rattle.symbols.specs.Sizes.{most_polynomials}
 use Rattle.workarea.specs.Area.{Starts, cells_of}
@@ -14,8 +14,5 @@ use Rattle.steplines.proofs.put_steps.Given as goal
 
 abbrev pub invariant-loop-t : goal.invariant-loop-t
 invariant-loop-t l =
-    (l.t ≤ l.count) × (length l.work ≡ length l.initial.work) × Heights l.q l.heights × (length l.heights ≡ most_polynomials)
+    (length l.work ≡ length l.initial.work) × Heights l.q l.heights × (length l.heights ≡ most_polynomials)
     × ((row : List ℕ) → Starts l.q l.initial.work (cells_of l.q (state_after l.q l.u row 0).polys) → Reached l.q l.u row l.t l.initial.page l.work l.heights l.page)
-
-abbrev pub decreases-loop-t : goal.decreases-loop-t
-decreases-loop-t l = l.count - l.t

@@ -4,7 +4,5 @@ use Rattle.results.specs.Results.{CountFits}
 use Rattle.tape.proofs.Counts.{answer-fits}
 use Rattle.tape.proofs.tape_decode.Goals as goal
 
-pub of_decoding-requires : goal.of_decoding-requires
-of_decoding-requires c =
-    subst CountFits (sym c.decode-answer.ensures.answered)
-    (answer-fits _ _ _ _ _ _)
+pub of_count-requires : goal.of_count-requires
+of_count-requires c = subst CountFits (sym c.decode.ensures.answered) (answer-fits _ _ _ _ _ _)

@@ -15,7 +15,6 @@ use Rattle.steps.proofs.service.take_steps.Goals as goal
 pub loop-done-init : goal.loop-done-init
 loop-done-init c =
     let known = c.requires.valid.0.known in (
-      search rules,
       refl,
       refl,
       c.requires.valid.0.k-is ∙ sym (below_all _ _ _ (code-stepped _ _ known (code_below _ _ c.requires.valid.0.accepted))) ∙ ap (votes_below c.args.code.q c.args.code.u) (sym (sub-zero _)),
@@ -29,8 +28,8 @@ note_vote-left-requires c =
     let turn = c.loop-done in (
       c.requires.valid.0.known,
       omega (arith, c.requires.valid.1, c.loop-done-test.true),
-      turn.invariant.3,
-      omega (arith, turn.invariant.3, turn.invariant.2, c.requires.q_in_bounds.1, below-le c.args.code.q c.args.code.u (step_count c.args.code.q - turn.done)),
+      turn.invariant.2,
+      omega (arith, turn.invariant.2, turn.invariant.1, c.requires.q_in_bounds.1, below-le c.args.code.q c.args.code.u (step_count c.args.code.q - turn.done)),
     )
 
 pub loop-done-preserved : goal.loop-done-preserved
@@ -41,17 +40,16 @@ loop-done-preserved c =
     let few : turn.done < step_count c.args.code.q = omega (arith, c.requires.valid.1, c.loop-done-test.true) in (
       search rules,
       search rules,
-      search rules,
       noting.value,
       stepping.heights_left,
       search rules,
       λ row rest rest' e e'.
-          let now-then = turn.invariant.6 row rest rest' e e' in
+          let now-then = turn.invariant.5 row rest rest' e e' in
           let stepped = stepping.stepped row rest now-then.0 now-then.2 in
           (stepped.0.picture, noting.votes_left ∙ ap (noted _ _ _ _) now-then.1 ∙ noted-next _ _ row _ _ rest' few stepped.0.vote-is, stepped.1),
     )
 
 pub returns : goal.returns
 returns c =
-    let e : c.loop-done.done ≡ c.args.steps = omega (arith, c.loop-done.invariant.0) in
-    λ row rest rest' w v. let all = (rw e at c.loop-done.invariant.6) row rest rest' w v in (all.0, all.1)
+    let e : c.loop-done.done ≡ c.args.steps = omega (arith, c.loop-done-test.false, c.loop-done.auto) in
+    λ row rest rest' w v. let all = (rw e at c.loop-done.invariant.5) row rest rest' w v in (all.0, all.1)

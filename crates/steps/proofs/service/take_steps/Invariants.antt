@@ -2,7 +2,7 @@
 -- Assumes nothing.
 use mathlib.Core.Path.{◌≡◌}
 use mathlib.Core.List.{List, ◌++◌}
-use Prim.Native.Nat.{ℕ, ◌-◌, ◌≤◌}
+use Prim.Native.Nat.{ℕ, ◌-◌}
 use lib.ListN.{length}
 use Rattle.symbols.specs.Sizes.{most_polynomials}
 use Rattle.published.specs.Start.{step_count}
@@ -14,9 +14,6 @@ use Rattle.steps.proofs.service.take_steps.Given as goal
 
 abbrev pub invariant-loop-done : goal.invariant-loop-done
 invariant-loop-done l =
-    (l.done ≤ l.steps) × (length l.work ≡ length l.initial.work) × (length l.votes ≡ length l.initial.votes) × (l.left ≡ votes_below l.q l.u (step_count l.q - l.done)) × Heights l.q l.heights × (length l.heights ≡ most_polynomials)
+    (length l.work ≡ length l.initial.work) × (length l.votes ≡ length l.initial.votes) × (l.left ≡ votes_below l.q l.u (step_count l.q - l.done)) × Heights l.q l.heights × (length l.heights ≡ most_polynomials)
     × ((row rest rest' : List ℕ) → l.initial.work ≡ picture_after l.q l.u row 0 ++ rest → l.initial.votes ≡ votes_after l.q l.u row 0 ++ rest'
     → (l.work ≡ picture_after l.q l.u row l.done ++ rest) × (l.votes ≡ votes_after l.q l.u row l.done ++ rest') × BelowAfter l.q l.u row l.done l.heights)
-
-abbrev pub decreases-loop-done : goal.decreases-loop-done
-decreases-loop-done l = l.steps - l.done

@@ -6,7 +6,7 @@ use native.Mathlib.Omega.{arith}
 use Rattle.layout.proofs.Reading.{row-part}
 use Rattle.taperow.proofs.reading.gather_row.Goals as goal
 
-pub returns-clause-symbols_after : goal.returns-clause-symbols_after
-returns-clause-symbols_after c = let n : 40 + 32 * c.args.r - (8 + 32 * c.args.r) ≡ 32 = omega arith in
+pub returns-clause-gathered : goal.returns-clause-gathered
+returns-clause-gathered c = let n : 40 + 32 * c.args.r - (8 + 32 * c.args.r) ≡ 32 = omega arith in
     let unpacked = c.unpack.ensures in
     rw (n, c.requires.1) at unpacked.0 ∙ sym (row-part c.args.block.now c.args.r)

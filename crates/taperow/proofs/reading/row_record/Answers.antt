@@ -11,6 +11,6 @@ returns c =
     let s = c.args in
     let n : 20 + 20 * s.r - 20 * s.r ≡ 20 = omega arith in
     let judged = c.judge_row.ensures in (
-      rw (n, c.gather_row.ensures.symbols_after) at judged.outcome ∙ row-judged s.block.now s.payload.now s.r,
+      rw (n, c.gather_row.ensures.gathered) at judged.outcome ∙ row-judged s.block.now s.payload.now s.r,
       judged.work_left,
     )

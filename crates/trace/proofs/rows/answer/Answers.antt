@@ -8,26 +8,26 @@ use Rattle.trace.specs.Trace.{answer}
 use Rattle.trace.proofs.Checked.{refused-by-code}
 use Rattle.trace.proofs.Lengths.{length-refused}
 use Rattle.trace.proofs.rows.answer.Goals as goal
-use Rattle.trace.proofs.rows.answer.Goals.{In-Code}
+use Rattle.trace.proofs.rows.answer.Goals.{In-Ok}
 
 -- the code that was named
-found : (c : In-Code) → IsNamed c.args.q c.args.u c.in-Code.code
-found c = named-code _ _ (sym c.code_of.ensures ∙ c.in-Code.is)
+found : (c : In-Ok) → IsNamed c.args.q c.args.u c.in-Ok.code
+found c = named-code _ _ (sym c.code_of.ensures ∙ c.in-Ok.is)
 
 pub answer_under-requires : goal.answer_under-requires
-answer_under-requires c = (named-valid _ _ (found (goal.at.answer_under-requires c).In-Code), c.requires)
+answer_under-requires c = (named-valid _ _ (found (goal.at.answer_under-requires c).In-Ok), c.requires)
 
 pub put_refusal-requires : goal.put_refusal-requires
-put_refusal-requires c = omega (arith, c.requires, length-refused c.in-Refused.why)
+put_refusal-requires c = omega (arith, c.requires, length-refused c.in-Err.why)
 
-pub returns-in-Code : goal.returns-in-Code
-returns-in-Code c =
+pub returns-in-Ok : goal.returns-in-Ok
+returns-in-Ok c =
     let at = c.args in
     subst
     (λ (code : Code). Wrote at.out.now 0 (answer code.q code.u at.row.now) c.answer_under.new.out c.answer_under.result)
-    (found (goal.at.returns-in-Code c).In-Code).is c.answer_under.ensures
+    (found (goal.at.returns-in-Ok c).In-Ok).is c.answer_under.ensures
 
-pub returns-in-Refused : goal.returns-in-Refused
-returns-in-Refused c =
-    rw (refused-by-code _ _ c.args.row.now (named-refused _ _ (sym c.code_of.ensures ∙ c.in-Refused.is)))
+pub returns-in-Err : goal.returns-in-Err
+returns-in-Err c =
+    rw (refused-by-code _ _ c.args.row.now (named-refused _ _ (sym c.code_of.ensures ∙ c.in-Err.is)))
     c.put_refusal.ensures
