@@ -1,11 +1,8 @@
 -- The two lines fit on the page, and the page's front is compared.
 -- Assumes nothing.
-use Rattle.std.proofs.Common.{◌≡◌, ◌∙◌, List, ℕ, ◌+◌, ◌≤◌, arith, length, take, sym, ap, length-take-le}
+use Rattle.std.proofs.Common.{◌∙◌, List, ℕ, ◌+◌, ◌≤◌, arith, length, take, sym, ap, length-take-le}
 use lib.ListN.{length-replicate}
-use Rattle.lines.specs.Page.{Room}
-use Rattle.lines.specs.Text.{Wrote}
 use Rattle.lines.proofs.Writing.{wrote-front}
-use Rattle.asking.specs.Request.{line, request}
 use Rattle.lists.specs.Same.{same_list}
 use Rattle.lists.proofs.Same.{tells-same}
 use Rattle.requesttext.proofs.Written.{length-first, length-line, wrote-request}
