@@ -8,8 +8,9 @@ use Prim.Native.Nat.{ℕ, ◌/◌, ◌≤◌}
 use native.Mathlib.Omega.{arith}
 use lib.ListN.{length}
 use Rattle.lists.specs.Tables.{join_from, join}
-use Rattle.lines.specs.Text.{Wrote}
-use Rattle.lines.proofs.Writing.{wrote-more}
+use Rattle.lines.specs.declared.Page.{Page}
+use Rattle.lines.specs.Page.{Put}
+use Rattle.lines.proofs.Pages.{put_more}
 use Rattle.refusals.specs.declared.Refusal.{Refusal}
 use Rattle.refusals.specs.Numbers.{Check, first_of}
 use Rattle.refusals.proofs.Checks.{Refuses, Passes, refused, passed, decide_checks}
@@ -83,7 +84,6 @@ module _ (block payload blank work : List ℕ) where
         (decide_checks checks)
 
 -- two texts, one after the other, are the text that they make
-pub text-written : {l m k a b text : List ℕ} {next last : ℕ} → a ++ b ≡ text → next ≤ length l → Wrote l 0 a m next
-    → Wrote m next b k last → Wrote l 0 text k last
-text-written {l} {m} {k} {a} {b} {text} {next} {last} make room first second =
-    rw (← make) (wrote-more (omega (arith, first.place)) first second)
+pub text-written : {page next last : Page} {a b text : List ℕ} → a ++ b ≡ text → next.end ≤ length page.out.now → Put page a next
+    → Put next b last → Put page text last
+text-written make room first second = rw (← make) (put_more (omega (arith, first.wrote.place)) first second)

@@ -4,26 +4,28 @@
 ghost use Rattle.std.specs.Prelude.{◌≡◌, ◌+◌, ◌≤◌, length};
 ghost use Rattle.io.specs.Counts.{IsPrefixLen};
 ghost use Rattle.lines.specs.Text.{Wrote};
+ghost use Rattle.lines.specs.Page.{Put};
 ghost use Rattle.blocktext.specs.Report.{verdict_line, rows_told, check_text};
 
 use answers::Verdict;
 use layout::{MESSAGE_BYTES, TAPE_AREA};
+use lines::Page;
 use refusals::Refusal;
 use report::put_refusal;
 use rowlines::{put_line, put_rows};
 use verifying::verify_bytes;
 
 // The last line.
-fn put_verdict(out: &mut [u8], at: usize, verdict: Result<Verdict, Refusal>) -> usize
-    requires { at + 32 ≤ length out.old }
-    ensures wrote { Wrote out.old at (verdict_line verdict) out.new result }
-    ensures upper_bound { result ≤ at + 32 }
+fn put_verdict(page: &mut Page, verdict: Result<Verdict, Refusal>)
+    requires { page.old.end + 32 ≤ length page.old.out.now }
+    ensures wrote { Put page.old (verdict_line verdict) page.new }
+    ensures upper_bound { page.new.end ≤ page.old.end + 32 }
 {
     match verdict {
-        Ok(Verdict::Copied(total)) => put_line(out, at, b"copied ", total),
-        Ok(Verdict::Differs(r)) => put_line(out, at, b"differs ", r),
-        Ok(Verdict::Unreadable(r)) => put_line(out, at, b"unreadable ", r),
-        Err(why) => put_refusal(out, at, why),
+        Ok(Verdict::Copied(total)) => put_line(page, b"copied ", total),
+        Ok(Verdict::Differs(r)) => put_line(page, b"differs ", r),
+        Ok(Verdict::Unreadable(r)) => put_line(page, b"unreadable ", r),
+        Err(why) => put_refusal(page, why),
     }
 }
 
@@ -42,9 +44,10 @@ pub fn check_text(block: &[u8], payload: &[u8], out: &mut [u8; 32768]) -> usize
     let mut records = [0u8; 2048];
     let mut work = [0u8; TAPE_AREA];
     let verdict = verify_bytes(block, payload, &mut records, &mut work);
-    let rows = rows_told(verdict, payload.len());
-    let end = put_rows(out, &records, rows);
-    put_verdict(out, end, verdict)
+    let mut page = Page::new(out);
+    put_rows(&mut page, &records, rows_told(verdict, payload.len()));
+    put_verdict(&mut page, verdict);
+    page.end
 }
 
 // The line of a verdict alone; answers how many bytes it has.
@@ -52,5 +55,7 @@ pub fn verdict_text(verdict: Result<Verdict, Refusal>, out: &mut [u8; 32]) -> us
     ensures text { Wrote out.old 0 (verdict_line verdict) out.new result }
     ensures within { IsPrefixLen result out.new }
 {
-    put_verdict(out, 0, verdict)
+    let mut page = Page::new(out);
+    put_verdict(&mut page, verdict);
+    page.end
 }

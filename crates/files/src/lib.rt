@@ -6,7 +6,7 @@ ghost use Rattle.std.specs.Prelude.{◌≡◌, ◌<◌, IfOk, IfSome, length, ta
 ghost use Rattle.std.specs.Io.KnownBytes.{Consumes};
 ghost use Rattle.io.specs.Counts.{IsPrefixLen};
 
-use lines::put_word;
+use lines::Page;
 use std::env::FillError;
 use std::fs::{File, OpenFile, OpenOptions};
 use std::io::{Read, Write};
@@ -100,9 +100,11 @@ fn name_beside<'a>(
     if 4000 < name.len() {
         return None;
     }
-    let own = put_word(area, 0, name);
-    let part = put_word(area, own, b".part-");
-    let end = put_word(area, part, &letters);
+    let mut page = Page::new(area);
+    page.word(name);
+    page.word(b".part-");
+    page.word(&letters);
+    let end = page.end;
     Some(&area[..end])
 }
 

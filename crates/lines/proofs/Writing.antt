@@ -2,7 +2,7 @@
 -- Assumes nothing.
 use mathlib.Core.Path.{◌≡◌, refl, ap, sym, ◌∙◌}
 use mathlib.Core.List.{List, [], ◌∷◌, ◌++◌, append_assoc, append-nil}
-use Prim.Native.Nat.{ℕ, zero, suc, ◌+◌, ◌/◌, ◌%◌, ◌≤◌, ◌<◌}
+use Prim.Native.Nat.{ℕ, zero, suc, ◌+◌, ◌≤◌, ◌<◌}
 use native.Mathlib.Nat.{add-zero, add_assoc}
 use native.Mathlib.Numerals.{add-one}
 use native.Mathlib.Omega.{arith}
@@ -10,7 +10,6 @@ use borrow.Rule.Slice.PartMut.{put_mid}
 use lib.ListN.{length, take, drop, set, get_or, length-append, length-drop, take-append-drop}
 use lib.Seq.{set_split, take_at, drop_at, drop-drop, length-take-le}
 use Rattle.lines.specs.Text.{digits, spaced, written, Wrote}
-use Rattle.lines.proofs.Digits.{digits-small, digits-large, length-digits-large}
 
 -- nothing written
 written-nothing : (l : List ℕ) (at : ℕ) → l ≡ written l at []
@@ -98,16 +97,6 @@ wrote-front {l} {m} {text} {next} done =
 pub wrote-within : {l m a : List ℕ} {at next : ℕ} → at + length a ≤ length l → Wrote l at a m next → next ≤ length m
 wrote-within {l} {m} {a} {at} {next} fits done = omega (arith, done.place, wrote-length fits done)
 
--- one digit is all of a number below ten
-pub wrote-small : {l m : List ℕ} {at n d next : ℕ} → n < 10 → d ≡ 48 + n → Wrote l at (d ∷ []) m next → Wrote l at (digits n) m next
-wrote-small {l} {m} {at} {n} {d} {next} small e done = rw (digits-small n small, ← e) done
-
--- the tenth's digits and then the last digit are all of a number from ten on
-pub wrote-large : {l m k : List ℕ} {at n d last next : ℕ} → 10 ≤ n → d ≡ 48 + n % 10 → at + length (digits n) ≤ length l
-    → Wrote l at (digits (n / 10)) m last → Wrote m last (d ∷ []) k next → Wrote l at (digits n) k next
-wrote-large {l} {m} {k} {at} {n} {d} {last} {next} large e fits first second =
-    rw (digits-large n large, ← e) (wrote-more (omega (arith, length-digits-large n large)) first second)
-
 -- a word copied into the part of a buffer that begins at a place
 pub wrote-part : (l : List ℕ) (at : ℕ) {word part : List ℕ} {size : ℕ} → part ≡ word → size ≡ length word
     → Wrote l at word (put_mid at size l part) (at + length word)
@@ -116,7 +105,7 @@ wrote-part l at {word} same whole =
     record { place = refl; buffer = rw (same, whole) (ap (λ (rest : List ℕ). take at l ++ (word ++ rest)) (drop-drop (length word) at l)) }
 
 -- numbers taken from a list, one after the other
-spaced-more : (numbers : List ℕ) (done : ℕ) → done < length numbers
+pub spaced-more : (numbers : List ℕ) (done : ℕ) → done < length numbers
     → spaced (take (suc done) numbers) ≡ spaced (take done numbers) ++ (32 ∷ digits (get_or numbers done 0))
 unfolding spaced
 spaced-more [] done h = absurd (omega arith)
@@ -140,13 +129,3 @@ pub spaced-room : (numbers : List ℕ) (done : ℕ) → done < length numbers
 spaced-room numbers done h =
     let whole = ap length (spaced-more numbers done h) in
     omega (arith, spaced-part numbers (suc done), whole, length-append (spaced (take done numbers)) (32 ∷ digits (get_or numbers done 0)))
-
--- one more number with its space
-pub wrote-spaced-more : {l m k n : List ℕ} {at next middle last : ℕ} (numbers : List ℕ) (done : ℕ) → at + length (spaced numbers) ≤ length l
-    → done < length numbers → Wrote l at (spaced (take done numbers)) m next → Wrote m next (32 ∷ []) k middle
-    → Wrote k middle (digits (get_or numbers done 0)) n last → Wrote l at (spaced (take (done + 1) numbers)) n last
-wrote-spaced-more {l} {m} {k} {n} {at} numbers done fits h first space number =
-    let room = spaced-room numbers done h in
-    let kept : length m ≡ length l = wrote-length (omega arith) first in
-    let both = wrote-more (omega (arith, first.place)) space number in
-    rw (add-one, spaced-more numbers done h) (wrote-more (omega arith) first both)

@@ -1,58 +1,66 @@
-// Bytes, words and decimal numbers written into a lent buffer, one after the other: each function writes at a place and
-// answers the next one. What is written at once must fit; what stands before and after it stays.
+// A page is written: bytes, words and decimal numbers, one after the other, in a lent buffer. What is written must fit; what stands
+// before and after it stays.
 #![tactic(auto)]
 
-ghost use Rattle.std.specs.Prelude.{[], ◌∷◌, ◌≡◌, ◌+◌, ◌<◌, ◌≤◌, length};
-ghost use Rattle.lines.specs.Text.{digits, spaced, Wrote};
+ghost use Rattle.std.specs.Prelude.{[], ◌∷◌, ◌≡◌};
+ghost use Rattle.lines.specs.Text.{digits, spaced};
+ghost use Rattle.lines.specs.Page.{Put, Room};
 
-// One byte.
-pub fn put_byte(buffer: &mut [u8], at: usize, byte: u8) -> usize
-    requires { at < length buffer.old }
-    ensures { Wrote buffer.old at (byte ∷ []) buffer.new result }
-{
-    buffer[at] = byte;
-    at + 1
+// A lent buffer, and the place where its text ends so far: what is written next begins there.
+#[derive(Drop)]
+pub struct Page<'a> {
+    pub out: &'a mut [u8],
+    pub end: usize,
 }
 
-// All bytes of a word.
-pub fn put_word(buffer: &mut [u8], at: usize, word: &[u8]) -> usize
-    requires { at + length word.now ≤ length buffer.old }
-    ensures { Wrote buffer.old at word.now buffer.new result }
-{
-    let next = at + word.len();
-    buffer[at..next].copy_from_slice(word);
-    next
-}
-
-// The digit below ten in ASCII.
-fn digit(d: usize) -> u8
-    requires { d < 10 }
-    ensures { result ≡ 48 + d }
-{
-    b'0' + d as u8
-}
-
-// A number in decimal. It calls itself for the digits before the last: at most 20 calls deep.
-pub fn put_number(buffer: &mut [u8], at: usize, n: usize) -> usize
-    requires { at + length (digits n) ≤ length buffer.old }
-    ensures { Wrote buffer.old at (digits n) buffer.new result }
-{
-    if n < 10 {
-        return put_byte(buffer, at, digit(n));
+impl<'a> Page<'a> {
+    // A page with no text.
+    pub fn new(out: &'a mut [u8]) -> Page<'a>
+        ensures same_buffer { result.out.ghost_name ≡ out.entry.ghost_name }
+        ensures kept { result.out.now ≡ out.old }
+        ensures empty { result.end ≡ 0 }
+    {
+        Page { out, end: 0 }
     }
-    let last = put_number(buffer, at, n / 10);
-    put_byte(buffer, last, digit(n % 10))
-}
 
-// Each of the numbers in decimal, with a space before it.
-pub fn put_spaced(buffer: &mut [u8], at: usize, numbers: &[u8]) -> usize
-    requires { at + length (spaced numbers.now) ≤ length buffer.old }
-    ensures { Wrote buffer.old at (spaced numbers.now) buffer.new result }
-{
-    let mut next = at;
-    for &number in numbers {
-        next = put_byte(buffer, next, b' ');
-        next = put_number(buffer, next, usize::from(number));
+    // One byte.
+    pub fn byte(&mut self, byte: u8)
+        requires { Room self.old (byte ∷ []) }
+        ensures { Put self.old (byte ∷ []) self.new }
+    {
+        self.out[self.end] = byte;
+        self.end += 1;
     }
-    next
+
+    // All bytes of a word.
+    pub fn word(&mut self, word: &[u8])
+        requires { Room self.old word.now }
+        ensures { Put self.old word.now self.new }
+    {
+        let end = self.end + word.len();
+        self.out[self.end..end].copy_from_slice(word);
+        self.end = end;
+    }
+
+    // A number in decimal. It calls itself for the digits before the last: at most 20 calls deep.
+    pub fn number(&mut self, n: usize)
+        requires { Room self.old (digits n) }
+        ensures { Put self.old (digits n) self.new }
+    {
+        if n >= 10 {
+            self.number(n / 10);
+        }
+        self.byte(b'0' + (n % 10) as u8);
+    }
+
+    // Each of the numbers in decimal, with a space before it.
+    pub fn spaced(&mut self, numbers: &[u8])
+        requires { Room self.old (spaced numbers.now) }
+        ensures { Put self.old (spaced numbers.now) self.new }
+    {
+        for &number in numbers {
+            self.byte(b' ');
+            self.number(usize::from(number));
+        }
+    }
 }

@@ -6,9 +6,11 @@ use Prim.Native.Nat.{ℕ, suc, ◌+◌, ◌*◌, ◌-◌, ◌≤◌, ◌<◌}
 use native.Mathlib.Omega.{arith}
 use lib.ListN.{length, get_or, take, drop, length-append}
 use lib.Seq.{take_all}
-use Rattle.lines.specs.Text.{last_digits, digits, spaced, Wrote}
+use Rattle.lines.specs.declared.Page.{Page}
+use Rattle.lines.specs.Text.{last_digits, digits, spaced}
+use Rattle.lines.specs.Page.{Put, Room}
 use Rattle.lines.proofs.Digits.{length_digits, length-spaced}
-use Rattle.lines.proofs.Writing.{wrote-more}
+use Rattle.lines.proofs.Pages.{put_more}
 use Rattle.asking.specs.Request.{line, request}
 
 -- the line "q u" in its four pieces
@@ -36,21 +38,21 @@ pub length-row : (row : List ℕ) → 0 < length row → length (line row) ≡ l
 length-row row h = ap length (sym (row-pieces row h)) ∙ simp length-append
 
 -- the pieces of the line "q u", written one after the other
-pub wrote-code : {l m n o p : List ℕ} {at one two three last : ℕ} (q u : ℕ) → at + length (line (q ∷ u ∷ [])) ≤ length l
-    → Wrote l at (digits q) m one → Wrote m one (32 ∷ []) n two → Wrote n two (digits u) o three → Wrote o three (10 ∷ []) p last
-    → Wrote l at (line (q ∷ u ∷ [])) p last
-wrote-code {l} {m} {n} {o} {p} {at} {one} {two} {three} {last} q u fits a b c d =
+pub wrote-code : {page one two three last : Page} (q u : ℕ) → Room page (line (q ∷ u ∷ []))
+    → Put page (digits q) one → Put one (32 ∷ []) two → Put two (digits u) three → Put three (10 ∷ []) last
+    → Put page (line (q ∷ u ∷ [])) last
+wrote-code q u fits a b c d =
     let whole = length-code q u in
     rw (← code-pieces q u)
-    (wrote-more (simp length-append (omega arith)) (wrote-more (simp length-append (omega arith)) (wrote-more (omega arith) a b) c) d)
+    (put_more (simp length-append (omega arith)) (put_more (simp length-append (omega arith)) (put_more (omega arith) a b) c) d)
 
 -- the pieces of a row's line
-pub wrote-row : {l m n o : List ℕ} {at one two last : ℕ} (row : List ℕ) → 0 < length row → at + length (line row) ≤ length l
-    → Wrote l at (digits (get_or row 0 0)) m one → Wrote m one (spaced (others row)) n two → Wrote n two (10 ∷ []) o last
-    → Wrote l at (line row) o last
-wrote-row {l} {m} {n} {o} {at} {one} {two} {last} row h fits a b c =
+pub wrote-row : {page one two last : Page} (row : List ℕ) → 0 < length row → Room page (line row)
+    → Put page (digits (get_or row 0 0)) one → Put one (spaced (others row)) two → Put two (10 ∷ []) last
+    → Put page (line row) last
+wrote-row row h fits a b c =
     let whole = length-row row h in
-    rw (← row-pieces row h) (wrote-more (simp length-append (omega arith)) (wrote-more (omega arith) a b) c)
+    rw (← row-pieces row h) (put_more (simp length-append (omega arith)) (put_more (omega arith) a b) c)
 
 -- numbers below a thousand take four bytes each at most in a line
 pub length-line : (numbers : List ℕ) → 0 < length numbers → ((i : ℕ) → get_or numbers i 0 < 1000) → length (line numbers) ≤ 4 * length numbers
@@ -71,9 +73,8 @@ length-line (n ∷ numbers) some h =
 pub length-first : (q u : ℕ) → q < 1000 → u < 1000 → length (line (q ∷ u ∷ [])) ≤ 8
 length-first q u hq hu = omega (arith, length-code q u, length_digits 2 q hq, length_digits 2 u hu)
 
--- both lines, written from a page's start, are the request
-pub wrote-request : {l m n : List ℕ} {second end : ℕ} (q u : ℕ) (row : List ℕ) → 8 + 4 * length row ≤ length l
-    → q < 1000 → u < 1000 → Wrote l 0 (line (q ∷ u ∷ [])) m second → Wrote m second (line row) n end
-    → Wrote l 0 (request q u row) n end
+-- both lines, written one after the other, are the request
+pub wrote-request : {page second end : Page} (q u : ℕ) (row : List ℕ) → page.end + (8 + 4 * length row) ≤ length page.out.now
+    → q < 1000 → u < 1000 → Put page (line (q ∷ u ∷ [])) second → Put second (line row) end → Put page (request q u row) end
 unfolding request
-wrote-request q u row fits hq hu first second = wrote-more (omega (arith, length-first q u hq hu)) first second
+wrote-request q u row fits hq hu first second = put_more (omega (arith, length-first q u hq hu)) first second

@@ -6,27 +6,23 @@ use mathlib.Core.List.{List, [], ◌∷◌, ◌++◌}
 use Prim.Native.Nat.{ℕ, ◌+◌, ◌^◌, ◌≤◌, ◌<◌, zero-le}
 use native.Mathlib.Omega.{arith}
 use lib.ListN.{length, length-append}
-use Rattle.lines.specs.Text.{ascii, digits, Wrote}
+use Rattle.lines.specs.declared.Page.{Page}
+use Rattle.lines.specs.Text.{ascii, digits}
+use Rattle.lines.specs.Page.{Put}
 use Rattle.lines.proofs.Digits.{length_digits}
-use Rattle.lines.proofs.Writing.{wrote_nothing, wrote-more, wrote-length}
+use Rattle.lines.proofs.Pages.{put_nothing, put_more}
 use Rattle.rowlines.specs.RowLines.{tells, told_line, row_line}
 
 -- a machine number has at most 20 digits
-digits-short : (n : ℕ) → n < 2 ^ 64 → length (digits n) ≤ 20
+pub digits-short : (n : ℕ) → n < 2 ^ 64 → length (digits n) ≤ 20
 digits-short n fits = length_digits 19 n (omega arith)
 
--- there is room for the number behind the word
-pub piece-room : {l m word : List ℕ} {at next : ℕ} (n : ℕ) → n < 2 ^ 64 → at + length word + 20 ≤ length l
-    → Wrote l at word m next → next + length (digits n) ≤ length m
-piece-room {l} {m} {word} {at} {next} n fits room done =
-    omega (arith, done.place, wrote-length (omega arith) done, digits-short n fits)
-
 -- a word and a number, one after the other, and where they end
-pub piece-written : {l m k word : List ℕ} {at next last : ℕ} (n : ℕ) → n < 2 ^ 64 → at + length word + 20 ≤ length l
-    → Wrote l at word m next → Wrote m next (digits n) k last
-    → Wrote l at (word ++ digits n) k last × (last ≤ at + length word + 20)
-piece-written {l} {m} {k} {word} {at} {next} {last} n fits room first second =
-    (wrote-more (omega arith) first second, omega (arith, first.place, second.place, digits-short n fits))
+pub piece-written : {page next last : Page} {word : List ℕ} (n : ℕ) → n < 2 ^ 64 → page.end + length word + 20 ≤ length page.out.now
+    → Put page word next → Put next (digits n) last
+    → Put page (word ++ digits n) last × (last.end ≤ page.end + length word + 20)
+piece-written n fits room first second =
+    (put_more (omega arith) first second, omega (arith, first.wrote.place, second.wrote.place, digits-short n fits))
 
 -- a piece takes no more than its word and 20 digits
 piece-short : (at limit : ℕ) (word : List ℕ) (n : ℕ) → n < 2 ^ 64 → at + length word + 20 ≤ limit
@@ -34,26 +30,26 @@ piece-short : (at limit : ℕ) (word : List ℕ) (n : ℕ) → n < 2 ^ 64 → at
 piece-short at limit word n fits room = omega (arith, length-append word (digits n), digits-short n fits)
 
 -- a line of one piece
-pub line-written : {l m k : List ℕ} {at next last : ℕ} (word : List ℕ) (n : ℕ) → n < 2 ^ 64
-    → at + length word + 21 ≤ length l → Wrote l at (word ++ digits n) m next → Wrote m next (10 ∷ []) k last
-    → Wrote l at (word ++ digits n ++ (10 ∷ [])) k last
-line-written {l} {m} {k} {at} {next} {last} word n fits room first second =
-    wrote-more (piece-short at (length l) word n fits (omega arith)) first second
+pub line-written : {page next last : Page} (word : List ℕ) (n : ℕ) → n < 2 ^ 64
+    → page.end + length word + 21 ≤ length page.out.now → Put page (word ++ digits n) next → Put next (10 ∷ []) last
+    → Put page (word ++ digits n ++ (10 ∷ [])) last
+line-written {page} word n fits room first second =
+    put_more (piece-short page.end (length page.out.now) word n fits (omega arith)) first second
 
 -- a row's line of three pieces
-told-written : {l m k o q : List ℕ} {at one two three last : ℕ} (r state count : ℕ) → r < 2 ^ 64 → state < 2 ^ 64
-    → count < 2 ^ 64 → at + 79 ≤ length l → Wrote l at (ascii "row " ++ digits r) m one
-    → Wrote m one (ascii " state " ++ digits state) k two → Wrote k two (ascii " count " ++ digits count) o three
-    → Wrote o three (10 ∷ []) q last → Wrote l at (told_line r state count) q last
+told-written : {page one two three last : Page} (r state count : ℕ) → r < 2 ^ 64 → state < 2 ^ 64
+    → count < 2 ^ 64 → page.end + 79 ≤ length page.out.now → Put page (ascii "row " ++ digits r) one
+    → Put one (ascii " state " ++ digits state) two → Put two (ascii " count " ++ digits count) three
+    → Put three (10 ∷ []) last → Put page (told_line r state count) last
 unfolding told_line ascii
-told-written {l} {m} {k} {o} {q} {at} {one} {two} {three} {last} r state count fr fs fc room a b c d =
+told-written r state count fr fs fc room a b c d =
     let la = length-append (ascii "row ") (digits r) in
     let lb = length-append (ascii " state ") (digits state) in
     let lc = length-append (ascii " count ") (digits count) in
     let two-long = length-append (ascii "row " ++ digits r) (ascii " state " ++ digits state) in
     let three-long = length-append (ascii "row " ++ digits r ++ (ascii " state " ++ digits state)) (ascii " count " ++ digits count) in
-    wrote-more (omega (arith, digits-short r fr, digits-short state fs, digits-short count fc))
-    (wrote-more (omega (arith, digits-short r fr, digits-short state fs)) (wrote-more (omega (arith, digits-short r fr)) a b) c)
+    put_more (omega (arith, digits-short r fr, digits-short state fs, digits-short count fc))
+    (put_more (omega (arith, digits-short r fr, digits-short state fs)) (put_more (omega (arith, digits-short r fr)) a b) c)
     d
 
 -- nothing to tell, no line
@@ -67,14 +63,14 @@ unfolding row_line
 row_told r state count tell = ap (λ (b : Bool). elim b [ true ↦ told_line r state count | false ↦ [] ]) tell
 
 -- nothing to tell, nothing written
-pub quiet-written : (l : List ℕ) (at r state count : ℕ) → tells state count ≡ false → Wrote l at (row_line r state count) l at
-quiet-written l at r state count quiet = rw (row-quiet r state count quiet) (wrote_nothing l at)
+pub quiet-written : (page : Page) (r state count : ℕ) → tells state count ≡ false → Put page (row_line r state count) page
+quiet-written page r state count quiet = rw (row-quiet r state count quiet) (put_nothing page)
 
 -- a row with something to tell, written
-pub row_written : {l m k o q : List ℕ} {at one two three last : ℕ} (r state count : ℕ) → r < 2 ^ 64 → state < 2 ^ 64
-    → count < 2 ^ 64 → at + 79 ≤ length l → tells state count ≡ true → Wrote l at (ascii "row " ++ digits r) m one
-    → Wrote m one (ascii " state " ++ digits state) k two → Wrote k two (ascii " count " ++ digits count) o three
-    → Wrote o three (10 ∷ []) q last → Wrote l at (row_line r state count) q last
+pub row_written : {page one two three last : Page} (r state count : ℕ) → r < 2 ^ 64 → state < 2 ^ 64
+    → count < 2 ^ 64 → page.end + 79 ≤ length page.out.now → tells state count ≡ true → Put page (ascii "row " ++ digits r) one
+    → Put one (ascii " state " ++ digits state) two → Put two (ascii " count " ++ digits count) three
+    → Put three (10 ∷ []) last → Put page (row_line r state count) last
 row_written r state count fr fs fc room tell a b c d =
     rw (row_told r state count tell) (told-written r state count fr fs fc room a b c d)
 

@@ -6,11 +6,12 @@ ghost use Rattle.symbols.specs.Sizes.{most_q};
 ghost use Rattle.symbols.specs.Rule.{symbols};
 ghost use Rattle.published.specs.Start.{Polynomials, start_weight};
 ghost use Rattle.workarea.specs.Area.{Area, Starts, cells_of};
-ghost use Rattle.lines.specs.Text.{Wrote};
+ghost use Rattle.lines.specs.Page.{Put};
 ghost use Rattle.published.specs.Steps.{State};
 ghost use Rattle.stepline.specs.StepLine.{step_size, step_line, degrees as degrees_of, vote_at};
 ghost use Rattle.stepline.specs.Shown.{Shown, leader as leader_of};
 
+use lines::Page;
 use report::put_step;
 use steppairs::leading_of;
 use stepvotes::is_voted;
@@ -36,23 +37,15 @@ pub fn read_degrees(work: &[u8], q: usize, degrees: &mut [u8])
 }
 
 // The line of step s.
-pub fn put_step_line(
-    out: &mut [u8],
-    at: usize,
-    q: usize,
-    u: usize,
-    s: usize,
-    vote: u8,
-    work: &[u8],
-) -> usize
+pub fn put_step_line(page: &mut Page, q: usize, u: usize, s: usize, vote: u8, work: &[u8])
     requires area { Area q (length work.now) }
-    requires s_bound { (s ≤ start_weight q) × (at + step_size q ≤ length out.old) }
+    requires s_bound { (s ≤ start_weight q) × (page.old.end + step_size q ≤ length page.old.out.now) }
     requires shown { Shown q s vote work.now }
     ensures { (state : State (symbols q) q) → Starts q work.now (cells_of q state.polys) → vote ≡ vote_at q s state
-        → Wrote out.old at (step_line q u s state) out.new result }
+        → Put page.old (step_line q u s state) page.new }
 {
     let mut degrees = [0u8; MOST_POLYNOMIALS];
     read_degrees(work, q, &mut degrees);
     let vote = is_voted(q, u, s).then_some(vote);
-    put_step(out, at, s, vote, &degrees[..2 * q])
+    put_step(page, s, vote, &degrees[..2 * q]);
 }

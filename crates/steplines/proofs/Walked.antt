@@ -2,13 +2,14 @@
 -- Assumes nothing.
 use mathlib.Core.Path.{◌≡◌, ap, sym, ◌∙◌}
 use mathlib.Core.List.{List, ◌++◌}
-use Prim.Native.Nat.{ℕ, zero, suc, ◌+◌, ◌-◌, ◌≤◌, ◌<◌}
+use Prim.Native.Nat.{ℕ, zero, suc, ◌+◌, ◌-◌, ◌<◌}
 use native.Mathlib.Numerals.{add-one}
 use native.Mathlib.Omega.{arith}
 use lib.ListN.{length, length-set, length-replicate}
 use lib.Seq.{get_or-set_same}
-use Rattle.lines.specs.Text.{Wrote}
-use Rattle.lines.proofs.Writing.{wrote-more}
+use Rattle.lines.specs.declared.Page.{Page}
+use Rattle.lines.specs.Page.{Put, Room}
+use Rattle.lines.proofs.Pages.{put_more}
 use Rattle.symbols.specs.Rule.{symbols, number, symbol}
 use Rattle.published.specs.Start.{start_weight, step_count}
 use Rattle.published.specs.Pairing.{vote}
@@ -28,9 +29,9 @@ unfolding step_count
 weight_is q t {count} e = omega arith
 
 -- after t steps of a row the area shows their state, their lines are written, and the heights bound the upper parts
-pub record Reached (q u : ℕ) (row : List ℕ) (t : ℕ) (before : List ℕ) (at : ℕ) (work out heights : List ℕ) (next : ℕ) : Type 0 where
+pub record Reached (q u : ℕ) (row : List ℕ) (t : ℕ) (page : Page) (work heights : List ℕ) (now : Page) : Type 0 where
   pub shows : Starts q work (cells_of q (state_after q u row t).polys)
-  pub lines : Wrote before at (step_lines q u row t) out next
+  pub lines : Put page (step_lines q u row t) now
   pub below : BelowAfter q u row t heights
 
 -- what taking step t + 1 does, whatever the row
@@ -40,10 +41,10 @@ TakesStep q u t work heights vote work' heights' =
     → Stepped q u row t rest vote work' × BelowAfter q u row (t + 1) heights'
 
 -- what writing the line of step s does, whatever the state
-abbrev pub PutsLine : (q u s vote : ℕ) (work out : List ℕ) (next : ℕ) (out' : List ℕ) (next' : ℕ) → Type 0
-PutsLine q u s vote work out next out' next' =
+abbrev pub PutsLine : (q u s vote : ℕ) (work : List ℕ) (now next : Page) → Type 0
+PutsLine q u s vote work now next =
     (state : State (symbols q) q) → Starts q work (cells_of q state.polys) → vote ≡ vote_at q s state
-    → Wrote out next (step_line q u s state) out' next'
+    → Put now (step_line q u s state) next
 
 module _ (q u : ℕ) (row : List ℕ) where
   -- there is a place for each weight's vote
@@ -74,8 +75,8 @@ module _ (q u : ℕ) (row : List ℕ) where
   stepped t rest h done = (record { rest = rest; is = rw add-one at done.picture }, done.vote-is ∙ vote-more t h)
 
   -- the state that a step leaves, with s for its weight
-  pub next-state : {before work out heights work' heights' : List ℕ} {at next vote : ℕ} (t s : ℕ) → t < step_count q → s ≡ start_weight q - t
-      → Reached q u row t before at work out heights next → TakesStep q u t work heights vote work' heights'
+  pub next-state : {page now : Page} {work heights work' heights' : List ℕ} {vote : ℕ} (t s : ℕ) → t < step_count q → s ≡ start_weight q - t
+      → Reached q u row t page work heights now → TakesStep q u t work heights vote work' heights'
       → Starts q work' (cells_of q (state_after q u row (suc t)).polys) × (vote ≡ vote_at q s (state_after q u row (suc t)))
       × BelowAfter q u row (t + 1) heights'
   next-state t s h weight so_far takes =
@@ -84,12 +85,12 @@ module _ (q u : ℕ) (row : List ℕ) where
       (after.0, rw weight after.1, taken.1)
 
   -- one step more
-  pub reached-more : {before work out heights work' out' heights' : List ℕ} {at next next' vote : ℕ} (t s : ℕ) → t < step_count q → s ≡ start_weight q - t
-      → at + length (step_lines q u row t) ≤ length before → Reached q u row t before at work out heights next
-      → TakesStep q u t work heights vote work' heights' → PutsLine q u s vote work' out next out' next'
-      → Reached q u row (t + 1) before at work' out' heights' next'
+  pub reached-more : {page now next : Page} {work heights work' heights' : List ℕ} {vote : ℕ} (t s : ℕ) → t < step_count q → s ≡ start_weight q - t
+      → Room page (step_lines q u row t) → Reached q u row t page work heights now
+      → TakesStep q u t work heights vote work' heights' → PutsLine q u s vote work' now next
+      → Reached q u row (t + 1) page work' heights' next
   unfolding step_lines
   reached-more t s h weight fits so_far takes puts =
       let after = next-state t s h weight so_far takes in
       let line = rw weight at (puts (state_after q u row (suc t)) after.0 after.1) in
-      record { shows = rw add-one after.0; lines = rw add-one (wrote-more fits so_far.lines line); below = after.2 }
+      record { shows = rw add-one after.0; lines = rw add-one (put_more fits so_far.lines line); below = after.2 }

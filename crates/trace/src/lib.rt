@@ -2,6 +2,7 @@
 #![tactic(auto)]
 
 use files::read_full;
+use lines::Page;
 use refusals::Refusal;
 use report::put_refusal;
 use request::{Asked, read_request};
@@ -27,10 +28,12 @@ pub fn trace(text: &[u8], out: &mut [u8; TRACE_SIZE]) -> usize
     ensures means { Means text.now (reading text.now) }
 {
     let mut row = [0u8; 4096];
+    let mut page = Page::new(out);
     match read_request(text, &mut row) {
-        Some(Asked { q, u, count }) => rows::answer(out, q, u, &row[..count]),
-        None => put_refusal(out, 0, Refusal::WrongLength),
+        Some(Asked { q, u, count }) => rows::answer(&mut page, q, u, &row[..count]),
+        None => put_refusal(&mut page, Refusal::WrongLength),
     }
+    page.end
 }
 
 // Reads a text and prints its trace. One byte more than a text may have is read, so that a longer text is refused and not cut.

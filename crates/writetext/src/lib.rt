@@ -5,6 +5,7 @@ ghost use Rattle.io.specs.Counts.{IsPrefixLen};
 ghost use Rattle.lines.specs.Text.{Wrote};
 ghost use Rattle.writetext.specs.Told.{written_line};
 
+use lines::Page;
 use refusals::Refusal;
 use report::put_refusal;
 use rowlines::put_line;
@@ -14,8 +15,10 @@ pub fn written_text(written: Result<usize, Refusal>, out: &mut [u8; 32]) -> usiz
     ensures text { Wrote out.old 0 (written_line written) out.new result }
     ensures within { IsPrefixLen result out.new }
 {
+    let mut page = Page::new(out);
     match written {
-        Ok(bytes) => put_line(out, 0, b"wrote ", bytes),
-        Err(why) => put_refusal(out, 0, why),
+        Ok(bytes) => put_line(&mut page, b"wrote ", bytes),
+        Err(why) => put_refusal(&mut page, why),
     }
+    page.end
 }

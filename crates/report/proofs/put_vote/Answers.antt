@@ -4,18 +4,18 @@ use Rattle.lines.specs.Text.{ascii}
 use Rattle.report.specs.Report.{vote_text}
 use Rattle.report.proofs.put_vote.Goals as goal
 
-pub put_spaced-requires : goal.put_spaced-requires
+pub spaced-requires : goal.spaced-requires
 unfolding vote_text
-put_spaced-requires c = rw c.in-Some.is at c.requires
+spaced-requires c = rw c.in-Some.is at c.requires
 
 pub returns-in-Some : goal.returns-in-Some
 unfolding vote_text
-returns-in-Some c = rw c.in-Some.is c.put_spaced.ensures
+returns-in-Some c = rw c.in-Some.is c.spaced.ensures
 
-pub put_word-requires : goal.put_word-requires
+pub word-requires : goal.word-requires
 unfolding vote_text ascii
-put_word-requires c = rw c.in-None.is at c.requires
+word-requires c = rw c.in-None.is at c.requires
 
 pub returns-in-None : goal.returns-in-None
 unfolding vote_text ascii
-returns-in-None c = rw c.in-None.is c.put_word.ensures
+returns-in-None c = rw c.in-None.is c.word.ensures

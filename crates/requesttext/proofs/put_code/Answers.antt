@@ -4,19 +4,18 @@ use Rattle.std.proofs.Common.{arith}
 use Rattle.requesttext.proofs.Written.{length-code, wrote-code}
 use Rattle.requesttext.proofs.put_code.Goals as goal
 
-pub put_number-after_q-requires : goal.put_number-after_q-requires
-put_number-after_q-requires c = omega (arith, length-code c.args.q c.args.u)
+pub number-requires : goal.number-requires
+number-requires c = omega (arith, length-code c.args.q c.args.u)
 
-pub put_byte-space-requires : goal.put_byte-space-requires
-put_byte-space-requires c = omega (arith, length-code c.args.q c.args.u)
+pub byte-requires : goal.byte-requires
+byte-requires c = omega (arith, length-code c.args.q c.args.u)
 
-pub put_number-after_u-requires : goal.put_number-after_u-requires
-put_number-after_u-requires c = omega (arith, length-code c.args.q c.args.u)
+pub number-requires-2 : goal.number-requires-2
+number-requires-2 c = omega (arith, length-code c.args.q c.args.u)
 
-pub put_byte-requires : goal.put_byte-requires
-put_byte-requires c = omega (arith, length-code c.args.q c.args.u)
+pub byte-requires-2 : goal.byte-requires-2
+byte-requires-2 c = omega (arith, length-code c.args.q c.args.u)
 
 pub returns : goal.returns
 returns c =
-    wrote-code c.args.q c.args.u c.requires c.put_number-after_q.ensures c.put_byte-space.ensures c.put_number-after_u.ensures
-    c.put_byte.ensures
+    wrote-code c.args.q c.args.u c.requires c.number.ensures c.byte.ensures c.number-2.ensures c.byte-2.ensures

@@ -4,18 +4,18 @@ use Rattle.std.proofs.Common.{arith}
 use Rattle.requesttext.proofs.Written.{length-row, wrote-row}
 use Rattle.requesttext.proofs.put_row.Goals as goal
 
-pub put_number-first-requires : goal.put_number-first-requires
-put_number-first-requires c = rw c.from.ensures (omega (arith, length-row c.args.row.now c.requires.row_nonzero))
+pub number-requires : goal.number-requires
+number-requires c = rw c.from.ensures (omega (arith, length-row c.args.row.now c.requires.row_nonzero))
 
-pub put_spaced-last-requires : goal.put_spaced-last-requires
-put_spaced-last-requires c =
-    omega (arith, length-row c.args.row.now c.requires.row_nonzero, rw c.from.ensures at c.put_number-first.ensures.place)
+pub spaced-requires : goal.spaced-requires
+spaced-requires c =
+    omega (arith, length-row c.args.row.now c.requires.row_nonzero, rw c.from.ensures at c.number.ensures.wrote.place)
 
-pub put_byte-requires : goal.put_byte-requires
-put_byte-requires c =
-    omega (arith, length-row c.args.row.now c.requires.row_nonzero, rw c.from.ensures at c.put_number-first.ensures.place)
+pub byte-requires : goal.byte-requires
+byte-requires c =
+    omega (arith, length-row c.args.row.now c.requires.row_nonzero, rw c.from.ensures at c.number.ensures.wrote.place)
 
 pub returns : goal.returns
 returns c =
-    wrote-row c.args.row.now c.requires.row_nonzero c.requires.row_in_bounds (rw c.from.ensures at c.put_number-first.ensures)
-    c.put_spaced-last.ensures c.put_byte.ensures
+    wrote-row c.args.row.now c.requires.row_nonzero c.requires.row_in_bounds (rw c.from.ensures at c.number.ensures)
+    c.spaced.ensures c.byte.ensures

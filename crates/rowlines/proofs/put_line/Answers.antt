@@ -3,5 +3,4 @@ use Rattle.rowlines.proofs.Pieces.{line-written}
 use Rattle.rowlines.proofs.put_line.Goals as goal
 
 pub returns-clause-wrote : goal.returns-clause-wrote
-returns-clause-wrote c =
-    line-written c.args.word.now c.args.n c.ranges.n.fits c.requires c.put_piece-end.ensures.wrote c.put_byte.ensures
+returns-clause-wrote c = line-written c.args.word.now c.args.n c.ranges.n.fits c.requires c.put_piece.ensures.wrote c.byte.ensures

@@ -5,12 +5,12 @@ use Rattle.rowlines.proofs.Pieces.{quiet-written, row_written}
 use Rattle.rowlines.proofs.put_row.Goals as goal
 
 pub returns-then-not-is_told : goal.returns-then-not-is_told
-returns-then-not-is_told c = quiet-written _ _ _ _ _ (sym c.is_told.ensures ∙ c.if-not-is_told.true)
+returns-then-not-is_told c = quiet-written _ _ _ _ (sym c.is_told.ensures ∙ c.if-not-is_told.true)
 
 pub returns : goal.returns
 unfolding ascii
 returns c =
     row_written c.args.r c.args.state c.args.count c.ranges.r.fits (omega arith) (omega arith) c.requires
     (sym c.is_told.ensures ∙ c.if-not-is_told.false)
-    c.put_piece-row.ensures.wrote (rw c.from.ensures at c.put_piece-states.ensures.wrote)
-    (rw c.from-2.ensures at c.put_piece-counts.ensures.wrote) c.put_byte.ensures
+    c.put_piece.ensures.wrote (rw c.from.ensures at c.put_piece-2.ensures.wrote)
+    (rw c.from-2.ensures at c.put_piece-3.ensures.wrote) c.byte.ensures

@@ -12,8 +12,8 @@ loop-r-preserved c =
     let records = c.args.records.now in
     record {
       short =
-          rows_end r (get_or records (2 * r) 0) (get_or records (2 * r + 1) 0) (omega arith)
+          rows_end c.args.page.now.end r (get_or records (2 * r) 0) (get_or records (2 * r + 1) 0) (omega arith)
           (omega (arith, c.type_inv.records (2 * r))) (omega (arith, c.type_inv.records (2 * r + 1)))
-          c.loop-r.invariant.short c.put_row-at.ensures;
-      wrote = rows_next records r (omega arith) c.loop-r.invariant.wrote c.put_row-at.ensures;
+          c.loop-r.invariant.short c.put_row.ensures;
+      wrote = rows_next records r (omega arith) c.loop-r.invariant.wrote c.put_row.ensures;
     }

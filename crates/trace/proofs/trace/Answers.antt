@@ -5,54 +5,52 @@ use mathlib.Core.List.{List}
 use Prim.Native.Nat.{ℕ}
 use native.Mathlib.Omega.{arith}
 use lib.ListN.{length, take}
-use Rattle.io.specs.Counts.{IsPrefixLen}
+use Rattle.std.specs.Prelude.{Option, Some, None}
 use Rattle.io.proofs.Counting.{prefix_len_of_le}
-use Rattle.lines.specs.Text.{Wrote}
+use Rattle.lines.specs.Page.{Put}
 use Rattle.lines.proofs.Writing.{wrote-within}
 use Rattle.refusals.specs.declared.Refusal.TheVariants.{WrongLength}
+use Rattle.request.specs.Request.{reading}
+use Rattle.request.specs.declared.Asked.{Asked}
 use Rattle.request.specs.Reader.{saying}
 use Rattle.trace.specs.Trace.{answer, answer_to, trace_text}
 use Rattle.report.specs.Report.{refuse_line}
 use Rattle.trace.proofs.Lengths.{length-refused, length-trace, longest-is}
 use Rattle.trace.proofs.trace.Goals as goal
-use Rattle.trace.proofs.trace.Goals.{In-Some, In-None}
+use Rattle.trace.proofs.trace.Goals.{Joined-read_request, in-Some, in-None}
 
 -- what is answered where the text asks, and where it does not
-asked : (c : In-Some)
-    → trace_text c.args.text.now
-    ≡ answer c.in-Some.field-0.q c.in-Some.field-0.u (take c.in-Some.field-0.count c.read_request.new.row)
+asked : (text row : List ℕ) {read : Option Asked} {what : Asked} → saying read row ≡ reading text → read ≡ Some what
+    → trace_text text ≡ answer what.q what.u (take what.count row)
 unfolding trace_text answer_to saying
-asked c =
-    ap answer_to (sym c.read_request.ensures.row_after ∙ ap (λ r. saying r c.read_request.new.row) c.in-Some.is)
+asked text row said is = ap answer_to (sym said ∙ ap (λ r. saying r row) is)
 
-not-asked : (c : In-None)
-    → trace_text c.args.text.now ≡ refuse_line WrongLength
+not-asked : (text row : List ℕ) {read : Option Asked} → saying read row ≡ reading text → read ≡ None
+    → trace_text text ≡ refuse_line WrongLength
 unfolding trace_text answer_to saying
-not-asked c =
-    ap answer_to (sym c.read_request.ensures.row_after ∙ ap (λ r. saying r c.read_request.new.row) c.in-None.is)
+not-asked text row said is = ap answer_to (sym said ∙ ap (λ r. saying r row) is)
 
--- a trace that was written ends within the buffer
-within : (text before : List ℕ) {after : List ℕ} {end : ℕ} → length before ≡ 2489 → Wrote before 0 (trace_text text) after end
-    → IsPrefixLen end after
-within text before size written = prefix_len_of_le _ _ (wrote-within (omega (arith, length-trace text, longest-is)) written)
+-- so the page has the trace
+traced : (c : Joined-read_request) → Put c.new-page.result (trace_text c.args.text.now) c.match-read_request.page
+traced c =
+    elim c.match-read_request.branch [
+      | in-Some w ↦
+          rw (w.page-is, asked c.args.text.now c.read_request.new.row c.read_request.ensures.row_after w.in-Some.is) w.answer.ensures
+      | in-None w ↦
+          rw (w.page-is, not-asked c.args.text.now c.read_request.new.row c.read_request.ensures.row_after w.in-None.is) w.put_refusal.ensures
+    ]
 
 pub answer-requires : goal.answer-requires
-answer-requires c = omega (arith, longest-is)
+answer-requires c = omega (arith, longest-is, ap length c.new-page.ensures.kept, c.new-page.ensures.empty)
 
 pub put_refusal-requires : goal.put_refusal-requires
-put_refusal-requires c = omega (arith, length-refused WrongLength, longest-is)
+put_refusal-requires c = omega (arith, length-refused WrongLength, longest-is, ap length c.new-page.ensures.kept, c.new-page.ensures.empty)
 
-pub returns-in-Some-clause-wrote : goal.returns-in-Some-clause-wrote
-returns-in-Some-clause-wrote c = rw (asked (goal.at.returns-in-Some-clause-wrote c).In-Some) c.answer.ensures
+pub returns-clause-wrote : goal.returns-clause-wrote
+returns-clause-wrote c =
+    rw (c.new-page.ensures.kept, c.new-page.ensures.empty) at (traced (goal.at.returns-clause-wrote c).Joined-read_request).wrote
 
-pub returns-in-Some-clause-prefix_len : goal.returns-in-Some-clause-prefix_len
-returns-in-Some-clause-prefix_len c =
-    within c.args.text.now c.args.out.now (omega arith) (rw (asked (goal.at.returns-in-Some-clause-prefix_len c).In-Some) c.answer.ensures)
-
-pub returns-in-None-clause-wrote : goal.returns-in-None-clause-wrote
-returns-in-None-clause-wrote c = rw (not-asked (goal.at.returns-in-None-clause-wrote c).In-None) c.put_refusal.ensures
-
-pub returns-in-None-clause-prefix_len : goal.returns-in-None-clause-prefix_len
-returns-in-None-clause-prefix_len c =
-    within c.args.text.now c.args.out.now (omega arith)
-    (rw (not-asked (goal.at.returns-in-None-clause-prefix_len c).In-None) c.put_refusal.ensures)
+pub returns-clause-prefix_len : goal.returns-clause-prefix_len
+returns-clause-prefix_len c =
+    let wrote = rw (c.new-page.ensures.kept, c.new-page.ensures.empty) at (traced (goal.at.returns-clause-prefix_len c).Joined-read_request).wrote in
+    prefix_len_of_le _ _ (wrote-within (omega (arith, length-trace c.args.text.now, longest-is)) wrote)

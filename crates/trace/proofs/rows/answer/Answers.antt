@@ -1,7 +1,7 @@
 -- `trace::rows::answer` meets its contract: what q and u name decides. Assumes nothing.
 use mathlib.Core.Path.{sym, subst, ◌∙◌}
 use native.Mathlib.Omega.{arith}
-use Rattle.lines.specs.Text.{Wrote}
+use Rattle.lines.specs.Page.{Put}
 use Rattle.curve.specs.Codes.{Code}
 use Rattle.curve.proofs.Naming.{IsNamed, named-refused, named-code}
 use Rattle.trace.specs.Trace.{answer}
@@ -21,7 +21,7 @@ pub returns-in-Ok : goal.returns-in-Ok
 returns-in-Ok c =
     let at = c.args in
     subst
-    (λ (code : Code). Wrote at.out.now 0 (answer code.q code.u at.row.now) c.answer_under.new.out c.answer_under.result)
+    (λ (code : Code). Put at.page.now (answer code.q code.u at.row.now) c.answer_under.new.page)
     (found (goal.at.returns-in-Ok c).In-Ok).is c.answer_under.ensures
 
 pub returns-in-Err : goal.returns-in-Err

@@ -9,7 +9,8 @@ use lib.ListN.{length, drop, replicate}
 use borrow.Author.Tests.{not-true, not-false}
 use Rattle.symbols.specs.Sizes.{most_area}
 use Rattle.refusals.specs.declared.Refusal.TheVariants.{WrongLength, NoSymbol}
-use Rattle.lines.specs.Text.{Wrote}
+use Rattle.lines.specs.declared.Page.{Page}
+use Rattle.lines.specs.Page.{Put}
 use Rattle.curve.specs.Codes.{Code, point_count}
 use Rattle.curve.specs.Given.{Received}
 use Rattle.curve.proofs.CodeLaws.{dimension-le}
@@ -40,8 +41,8 @@ received : (c : Else-not-all_symbols) → Received c.args.code.q c.args.code.u c
 received c = subst (λ (code : Code). Received code.q code.u c.args.row.now) c.code.view_is (row c)
 
 -- what is printed under a code
-abbrev Prints : (out row out' : List ℕ) (end : ℕ) → Code → Type 0
-Prints out row out' end code = Wrote out 0 (answer code.q code.u row) out' end
+abbrev Prints : Page → (row : List ℕ) → Page → Code → Type 0
+Prints page row next code = Put page (answer code.q code.u row) next
 
 pub put_refusal-requires : goal.put_refusal-requires
 put_refusal-requires c = omega (arith, c.requires, length-refused WrongLength)
@@ -49,7 +50,7 @@ put_refusal-requires c = omega (arith, c.requires, length-refused WrongLength)
 pub returns-then-row-code : goal.returns-then-row-code
 returns-then-row-code c =
     let short = wrong-length _ _ _ (rw c.code.invariant.n-is at c.if-row-code.true) in
-    subst (Prints c.args.out.now c.args.row.now c.put_refusal.new.out c.put_refusal.result) c.code.view_is
+    subst (Prints c.args.page.now c.args.row.now c.put_refusal.new.page) c.code.view_is
     (rw (refused-by-row _ _ c.args.row.now (valid-passes c.code.invariant) short) c.put_refusal.ensures)
 
 pub put_refusal-requires-then-not-all_symbols : goal.put_refusal-requires-then-not-all_symbols
@@ -60,7 +61,7 @@ returns-then-not-all_symbols c =
     let refusal = c.put_refusal-then-not-all_symbols in
     let long = long (goal.at.returns-then-not-all_symbols c).Else-row-code in
     let beyond = no_symbol _ _ _ long (not-false _ (sym c.all_symbols.ensures ∙ not-true _ (ap not c.if-not-all_symbols.true))) in
-    subst (Prints c.args.out.now c.args.row.now refusal.new.out refusal.result) c.code.view_is
+    subst (Prints c.args.page.now c.args.row.now refusal.new.page) c.code.view_is
     (rw (refused-by-row _ _ c.args.row.now (valid-passes c.code.invariant) beyond) refusal.ensures)
 
 pub advance-requires : goal.advance-requires

@@ -6,7 +6,8 @@ use mathlib.Core.List.{List, [], ◌∷◌}
 use Prim.Native.Nat.{ℕ, ◌+◌, ◌*◌, ◌≤◌}
 use native.Mathlib.Omega.{arith}
 use lib.ListN.{length}
-use Rattle.lines.specs.Text.{Wrote}
+use Rattle.lines.specs.declared.Page.{Page}
+use Rattle.lines.specs.Page.{Put, Room}
 use Rattle.curve.specs.Codes.{Code}
 use Rattle.curve.specs.Given.{Received}
 use Rattle.published.specs.Start.{step_count}
@@ -23,73 +24,74 @@ use Rattle.trace.specs.Size.{trace_size, last_size}
 use Rattle.trace.proofs.Lengths.{length-first-line}
 use Rattle.trace.proofs.Whole.{wrote-all}
 use Rattle.trace.proofs.rows.put_lines.Goals as goal
-use Rattle.trace.proofs.rows.put_lines.Goals.{After-code, After-put_code-first}
+use Rattle.trace.proofs.rows.put_lines.Goals.{After-code, After-put_code}
 
 -- what is given and lent
-abbrev Lent : (out row work : List ℕ) (q u : ℕ) → Type 0
-Lent out row work q u =
-    Received q u row × (area_size q ≤ length work) × (trace_size q ≤ length out)
+abbrev Lent : Page → (row work : List ℕ) (q u : ℕ) → Type 0
+Lent page row work q u =
+    Received q u row × (area_size q ≤ length work) × (page.end + trace_size q ≤ length page.out.now)
     × Starts q work (cells_of q (state_after q u row 0).polys)
 
-lent : (c : After-code) → Lent c.args.out.now c.args.row.now c.args.work.now c.code.inside.q c.code.inside.u
+lent : (c : After-code) → Lent c.args.page.now c.args.row.now c.args.work.now c.code.inside.q c.code.inside.u
 lent c =
-    subst (λ (code : Code). Lent c.args.out.now c.args.row.now c.args.work.now code.q code.u) (sym c.code.view_is)
+    subst (λ (code : Code). Lent c.args.page.now c.args.row.now c.args.work.now code.q code.u) (sym c.code.view_is)
     (c.requires.received, c.requires.room.0, c.requires.room.1, c.requires.starts)
 
 -- the first line fits
-first_fits : (c : After-code) → 0 + length (line (c.code.inside.q ∷ c.code.inside.u ∷ [])) ≤ length c.args.out.now
+first_fits : (c : After-code) → Room c.args.page.now (line (c.code.inside.q ∷ c.code.inside.u ∷ []))
 unfolding trace_size
 first_fits c = let lent = lent c in omega (arith, length-first-line c.code.inside.q c.code.inside.u lent.0.code, lent.2)
 
 -- and after it the steps' lines and the last one do
-rest-fits : (c : After-put_code-first) → Lent c.args.out.now c.args.row.now c.args.work.now c.code.inside.q c.code.inside.u
+rest-fits : (c : After-put_code) → Lent c.args.page.now c.args.row.now c.args.work.now c.code.inside.q c.code.inside.u
     → let q = c.code.inside.q in
-    c.put_code-first.result + step_count q * step_size q + last_size q ≤ length c.put_code-first.new.buffer
+    c.put_code.new.page.end + step_count q * step_size q + last_size q ≤ length c.put_code.new.page.out.now
 unfolding trace_size
 rest-fits c lent =
     omega (
       arith,
       length-first-line c.code.inside.q c.code.inside.u lent.0.code,
-      c.put_code-first.ensures.place,
-      c.put_code-first.auto.buffer,
+      c.put_code.ensures.wrote.place,
+      c.put_code.ensures.same_length,
       lent.2,
     )
 
-pub put_code-first-requires : goal.put_code-first-requires
-put_code-first-requires c = first_fits (goal.at.put_code-first-requires c).After-code
+pub put_code-requires : goal.put_code-requires
+put_code-requires c = first_fits (goal.at.put_code-requires c).After-code
 
-pub put_steps-steps-requires-clause-known : goal.put_steps-steps-requires-clause-known
-put_steps-steps-requires-clause-known c =
-    let at = goal.at.put_steps-steps-requires-clause-known c in
+pub put_steps-requires-clause-known : goal.put_steps-requires-clause-known
+put_steps-requires-clause-known c =
+    let at = goal.at.put_steps-requires-clause-known c in
     let lent = lent at.After-code in
-    (c.code.invariant.known, lent.1, omega (arith, rest-fits at.After-put_code-first lent))
+    (c.code.invariant.known, lent.1, omega (arith, rest-fits at.After-put_code lent))
 
-pub put_steps-steps-requires-clause-started : goal.put_steps-steps-requires-clause-started
-put_steps-steps-requires-clause-started c =
-    record { row = c.args.row.now; shows = (lent (goal.at.put_steps-steps-requires-clause-started c).After-code).3 }
+pub put_steps-requires-clause-started : goal.put_steps-requires-clause-started
+put_steps-requires-clause-started c =
+    record { row = c.args.row.now; shows = (lent (goal.at.put_steps-requires-clause-started c).After-code).3 }
 
 pub put_last-requires-clause-room : goal.put_last-requires-clause-room
 put_last-requires-clause-room c =
     let at = goal.at.put_last-requires-clause-room c in
     let lent = lent at.After-code in
     let q = c.code.inside.q in
-    let steps = c.put_steps-steps in
+    let steps = c.put_steps in
     let lines = steps.ensures c.args.row.now lent.3 in
-    subst (λ (code : Code). (area_size code.q ≤ length steps.new.work) × (steps.result + last_size code.q ≤ length steps.new.out)) c.code.view_is (
+    subst (λ (code : Code). (area_size code.q ≤ length steps.new.work) × (steps.new.page.end + last_size code.q ≤ length steps.new.page.out.now))
+    c.code.view_is (
       omega (arith, steps.auto.work, lent.1),
       omega (
         arith,
-        rest-fits at.After-put_code-first lent,
+        rest-fits at.After-put_code lent,
         length-steps q c.code.inside.u c.args.row.now (step_count q),
-        lines.place,
-        steps.auto.out,
+        lines.wrote.place,
+        lines.same_length,
       ),
     )
 
 -- the last line makes the lines of a row whole
-abbrev Ends : (out row steps out' : List ℕ) (at end : ℕ) → Code → Type 0
-Ends out row steps out' at end code =
-    Wrote steps at (last_line (decoded code.q code.u row) (voted code.q code.u row)) out' end → Wrote out 0 (row_lines code.q code.u row) out' end
+abbrev Ends : Page → (row : List ℕ) (steps last : Page) → Code → Type 0
+Ends page row steps last code =
+    Put steps (last_line (decoded code.q code.u row) (voted code.q code.u row)) last → Put page (row_lines code.q code.u row) last
 
 pub returns : goal.returns
 returns c =
@@ -98,9 +100,7 @@ returns c =
     let q = c.code.inside.q in
     let u = c.code.inside.u in
     let row = c.args.row.now in
-    let steps = c.put_steps-steps in
-    let last = c.put_last in
-    subst (Ends c.args.out.now row steps.new.out last.new.out steps.result last.result) c.code.view_is
-    (wrote-all q u row (first_fits at.After-code) (omega (arith, rest-fits at.After-put_code-first lent, length-steps q u row (step_count q)))
-    c.put_code-first.ensures (steps.ensures row lent.3))
-    last.ensures
+    subst (Ends c.args.page.now row c.put_steps.new.page c.put_last.new.page) c.code.view_is
+    (wrote-all q u row (first_fits at.After-code) (omega (arith, rest-fits at.After-put_code lent, length-steps q u row (step_count q)))
+    c.put_code.ensures (c.put_steps.ensures row lent.3))
+    c.put_last.ensures

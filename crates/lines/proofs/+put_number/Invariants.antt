@@ -1,5 +1,0 @@
--- The function calls itself with the tenth of its number.
-use Rattle.lines.proofs.+put_number.Given as goal
-
-abbrev pub decreases-put_number : goal.decreases-put_number
-decreases-put_number l = l.n
