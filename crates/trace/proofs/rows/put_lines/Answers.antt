@@ -68,6 +68,10 @@ pub put_steps-steps-requires-clause-started : goal.put_steps-steps-requires-clau
 put_steps-steps-requires-clause-started c =
     record { row = c.args.row.now; shows = (lent (goal.at.put_steps-steps-requires-clause-started c).After-code).3 }
 
+-- there is room for the last line
+abbrev LastRoom : (work out : List ℕ) (at : ℕ) → Code → Type 0
+LastRoom work out at code = (area_size code.q ≤ length work) × (at + last_size code.q ≤ length out)
+
 pub put_last-requires-clause-room : goal.put_last-requires-clause-room
 put_last-requires-clause-room c =
     let at = goal.at.put_last-requires-clause-room c in
@@ -75,21 +79,17 @@ put_last-requires-clause-room c =
     let q = c.code.inside.q in
     let steps = c.put_steps-steps in
     let lines = steps.ensures c.args.row.now lent.3 in
-    subst (λ (code : Code). (area_size code.q ≤ length steps.new.work) × (steps.result + last_size code.q ≤ length steps.new.out)) c.code.view_is (
+    let end = length-steps q c.code.inside.u c.args.row.now (step_count q) in
+    subst (LastRoom steps.new.work steps.new.out steps.result) c.code.view_is (
       omega (arith, steps.auto.work, lent.1),
-      omega (
-        arith,
-        rest-fits at.After-put_code-first lent,
-        length-steps q c.code.inside.u c.args.row.now (step_count q),
-        lines.place,
-        steps.auto.out,
-      ),
+      omega (arith, rest-fits at.After-put_code-first lent, end, lines.place, steps.auto.out),
     )
 
 -- the last line makes the lines of a row whole
 abbrev Ends : (out row steps out' : List ℕ) (at end : ℕ) → Code → Type 0
 Ends out row steps out' at end code =
-    Wrote steps at (last_line (decoded code.q code.u row) (voted code.q code.u row)) out' end → Wrote out 0 (row_lines code.q code.u row) out' end
+    Wrote steps at (last_line (decoded code.q code.u row) (voted code.q code.u row)) out' end
+    → Wrote out 0 (row_lines code.q code.u row) out' end
 
 pub returns : goal.returns
 returns c =
@@ -101,6 +101,7 @@ returns c =
     let steps = c.put_steps-steps in
     let last = c.put_last in
     subst (Ends c.args.out.now row steps.new.out last.new.out steps.result last.result) c.code.view_is
-    (wrote-all q u row (first_fits at.After-code) (omega (arith, rest-fits at.After-put_code-first lent, length-steps q u row (step_count q)))
+    (wrote-all q u row (first_fits at.After-code)
+    (omega (arith, rest-fits at.After-put_code-first lent, length-steps q u row (step_count q)))
     c.put_code-first.ensures (steps.ensures row lent.3))
     last.ensures
