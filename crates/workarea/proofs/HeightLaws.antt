@@ -10,7 +10,7 @@ use lib.Seq.{get_or-set_same, get_or-set_other}
 use Rattle.lists.proofs.Numbers.{lt-or-ge, same_or_not}
 use Rattle.symbols.specs.Rule.{Known}
 use Rattle.published.specs.Start.{width}
-use Rattle.workarea.specs.Heights.{Heights, AtStart, height_of_sum, heights_added, heights_exchanged}
+use Rattle.workarea.specs.Heights.{Heights, AtStart, height_of_sum}
 use Rattle.workarea.proofs.Sizes.{sizes}
 
 -- the height of a sum is no more than the width; a place at or past it is past both parts, or past the width
@@ -32,15 +32,6 @@ heights-set q heights p n h hp hn =
           (λ ne. rw (get_or-set_other heights p p' n 0 ne) (h.low p' hp'))
           (same_or_not p' p);
     }
-
--- the heights after both updates are heights again
-pub heights-added : (q f g c : ℕ) (heights : List ℕ) → Heights q heights → f < 2 * q → Heights q (heights_added q f g c heights)
-unfolding heights_added
-heights-added q f g c heights h hf = heights-set q heights f _ h hf (sum_low q _ _)
-
-pub heights-exchanged : (q f g c : ℕ) (heights : List ℕ) → Heights q heights → f < 2 * q → g < 2 * q → Heights q (heights_exchanged q f g c heights)
-unfolding heights_exchanged
-heights-exchanged q f g c heights h hf hg = heights-set q _ g _ (heights-set q heights f _ h hf (sum_low q _ _)) hg (h.low f hf)
 
 -- those before the first step are heights
 pub start-many : (q : ℕ) (heights : List ℕ) → Known q → AtStart q heights → Heights q heights

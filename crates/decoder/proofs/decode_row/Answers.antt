@@ -12,7 +12,8 @@ use Rattle.curve.specs.Codes.{Code, point_count, dimension, reach}
 use Rattle.curve.specs.Given.{Valid, Received}
 use Rattle.curve.proofs.CodeLaws.{dimension-le}
 use Rattle.curve.proofs.Sizes.{count_small}
-use Rattle.decoder.proofs.Judgements.{Voted, Judged, votes-count, votes-fit, votes-message, sent-count, sent-fit, beyond, within, message-kept, corrected-kept, message-written, corrected-written}
+use Rattle.decoder.proofs.Judgements.{Voted, Judged, votes-count, votes-fit, votes-message, sent-count, sent-fit}
+use Rattle.decoder.proofs.Judgements.{beyond, within, message-kept, corrected-kept, message-written, corrected-written}
 use Rattle.decoder.proofs.decode_row.Goals as goal
 use Rattle.decoder.proofs.decode_row.Goals.{After-vote_all, After-judge-count}
 
@@ -70,17 +71,17 @@ judge-count-requires-clause-message c = votes-message (voting (goal.at.judge-cou
 pub judge-count-requires-clause-room : goal.judge-count-requires-clause-room
 judge-count-requires-clause-room c = fits-row c.requires.received
 
-pub returns-then-reach-count-clause-value : goal.returns-then-reach-count-clause-value
-returns-then-reach-count-clause-value c = let J = judged (goal.at.returns-then-reach-count-clause-value c).After-judge-count (voting (goal.at.returns-then-reach-count-clause-value c).After-vote_all) in
-    sym (beyond J c.if-reach-count.true)
-
-pub returns-then-reach-count-clause-message_left : goal.returns-then-reach-count-clause-message_left
-returns-then-reach-count-clause-message_left c = let J = judged (goal.at.returns-then-reach-count-clause-message_left c).After-judge-count (voting (goal.at.returns-then-reach-count-clause-message_left c).After-vote_all) in
-    message-kept J c.args.message.now c.if-reach-count.true
-
-pub returns-then-reach-count-clause-corrected_left : goal.returns-then-reach-count-clause-corrected_left
-returns-then-reach-count-clause-corrected_left c = let J = judged (goal.at.returns-then-reach-count-clause-corrected_left c).After-judge-count (voting (goal.at.returns-then-reach-count-clause-corrected_left c).After-vote_all) in
-    corrected-kept J c.args.corrected.now c.if-reach-count.true
+pub returns-then-reach-count : goal.returns-then-reach-count
+returns-then-reach-count c =
+    let at = goal.at.returns-then-reach-count c in
+    let J = judged at.After-judge-count (voting at.After-vote_all) in
+    let far = c.if-reach-count.true in
+    record {
+      value = sym (beyond J far);
+      work_left = c.vote_all.ensures.work_left;
+      message_left = message-kept J c.args.message.now far;
+      corrected_left = corrected-kept J c.args.corrected.now far;
+    }
 
 pub slice_bounds-votes-end-2 : goal.slice_bounds-votes-end-2
 slice_bounds-votes-end-2 c = votes-fit (voting (goal.at.slice_bounds-votes-end-2 c).After-vote_all)
@@ -94,27 +95,33 @@ copy_from_slice-requires c =
     length-take-le c.code.inside.k c.args.message.now (omega (arith, V.k-is, c.requires.room.for-message)) ∙ sym (votes-count V)
 
 pub slice_bounds-sent-end : goal.slice_bounds-sent-end
-slice_bounds-sent-end c = sent-fit (judged (goal.at.slice_bounds-sent-end c).After-judge-count (voting (goal.at.slice_bounds-sent-end c).After-vote_all))
+slice_bounds-sent-end c =
+    let at = goal.at.slice_bounds-sent-end c in
+    sent-fit (judged at.After-judge-count (voting at.After-vote_all))
 
 pub slice_bounds-copy_from_slice-end-6 : goal.slice_bounds-copy_from_slice-end-6
-slice_bounds-copy_from_slice-end-6 c = sym (sent-count (judged (goal.at.slice_bounds-copy_from_slice-end-6 c).After-judge-count (voting (goal.at.slice_bounds-copy_from_slice-end-6 c).After-vote_all)))
+slice_bounds-copy_from_slice-end-6 c =
+    let at = goal.at.slice_bounds-copy_from_slice-end-6 c in
+    sym (sent-count (judged at.After-judge-count (voting at.After-vote_all)))
 
 pub copy_from_slice-requires-2 : goal.copy_from_slice-requires-2
 copy_from_slice-requires-2 c =
-    let J = judged (goal.at.copy_from_slice-requires-2 c).After-judge-count (voting (goal.at.copy_from_slice-requires-2 c).After-vote_all) in
+    let at = goal.at.copy_from_slice-requires-2 c in
+    let J = judged at.After-judge-count (voting at.After-vote_all) in
     length-take-le c.code.inside.n c.args.corrected.now (omega (arith, J.n-is, c.requires.room.for-corrected)) ∙ sym (sent-count J)
 
-pub returns-clause-value : goal.returns-clause-value
-returns-clause-value c = let J = judged (goal.at.returns-clause-value c).After-judge-count (voting (goal.at.returns-clause-value c).After-vote_all) in
+pub returns : goal.returns
+returns c =
+    let at = goal.at.returns c in
+    let J = judged at.After-judge-count (voting at.After-vote_all) in
     let near = c.if-reach-count.false in
-    sym (within J near)
-
-pub returns-clause-message_left : goal.returns-clause-message_left
-returns-clause-message_left c = let J = judged (goal.at.returns-clause-message_left c).After-judge-count (voting (goal.at.returns-clause-message_left c).After-vote_all) in
-    let near = c.if-reach-count.false in
-    message-written J _ c.args.message.now near (ap (λ l. l ++ drop c.code.inside.k c.args.message.now) c.copy_from_slice.ensures.after)
-
-pub returns-clause-corrected_left : goal.returns-clause-corrected_left
-returns-clause-corrected_left c = let J = judged (goal.at.returns-clause-corrected_left c).After-judge-count (voting (goal.at.returns-clause-corrected_left c).After-vote_all) in
-    let near = c.if-reach-count.false in
-    corrected-written J _ c.args.corrected.now near (ap (λ l. l ++ drop c.code.inside.n c.args.corrected.now) c.copy_from_slice-2.ensures.after)
+    let message = c.args.message.now in
+    let corrected = c.args.corrected.now in
+    let copied = ap (λ l. l ++ drop c.code.inside.k message) c.copy_from_slice.ensures.after in
+    let copied-row = ap (λ l. l ++ drop c.code.inside.n corrected) c.copy_from_slice-2.ensures.after in
+    record {
+      value = sym (within J near);
+      work_left = c.vote_all.ensures.work_left;
+      message_left = message-written J _ message near copied;
+      corrected_left = corrected-written J _ corrected near copied-row;
+    }

@@ -19,7 +19,9 @@ use Rattle.decoder.specs.FullRows.{Room}
 use Rattle.decoder.proofs.DecodeChecks.{refused-by-row, short-work, short-message, short-corrected}
 use Rattle.decoder.proofs.Promises.{Promised, refusing, decoding, kept}
 use Rattle.decoder.proofs.decode_under.Goals as goal
-use Rattle.decoder.proofs.decode_under.Goals.{Else-corrected-code, Else-not-all_symbols, Else-row-code, then-message-code-via-then-message-code, then-message-code-via-else-message-code+then-corrected-code}
+use Rattle.decoder.proofs.decode_under.Goals.{Else-corrected-code, Else-not-all_symbols, Else-row-code}
+use Rattle.decoder.proofs.decode_under.Goals.{then-message-code-via-then-message-code}
+use Rattle.decoder.proofs.decode_under.Goals.{then-message-code-via-else-message-code+then-corrected-code}
 
 long : (c : Else-row-code) → length c.args.row.now ≡ point_count c.code.inside.q
 long c = c.if-row-code.false ∙ c.code.invariant.n-is
@@ -29,7 +31,7 @@ received c =
     record {
       known = c.code.invariant.known;
       code = c.code.invariant.accepted;
-      whole = (let it : length c.args.row.now ≡ point_count c.code.inside.q = c.if-row-code.false ∙ c.code.invariant.n-is in it);
+      whole = c.if-row-code.false ∙ c.code.invariant.n-is;
       all-symbols = not-true _ (sym c.all_symbols.ensures ∙ not-false _ (ap not c.if-not-all_symbols.false));
     }
 
@@ -74,7 +76,8 @@ returns-then-message-code c =
     let room : area_size c.code.inside.q ≤ length a.work.now = omega (arith, c.if-work-area_size.false, c.area_size.ensures) in
     kept _ _ _ _ _ _ (subst (Refusing a.row.now a.work.now a.message.now a.corrected.now ShortOutput) c.code.view_is
     (refusing _ _ _ _ _ _ _ (elim c.then-message-code.branch [
-      | then-message-code-via-then-message-code w ↦ short-message _ _ _ _ _ _ input room (omega (arith, w.if-message-code.true, c.code.invariant.k-is))
+      | then-message-code-via-then-message-code w ↦
+          short-message _ _ _ _ _ _ input room (omega (arith, w.if-message-code.true, c.code.invariant.k-is))
       | then-message-code-via-else-message-code+then-corrected-code w ↦
           short-corrected _ _ _ _ _ _ input room (omega (arith, w.if-corrected-code.true, c.code.invariant.n-is))
     ])))

@@ -1,10 +1,10 @@
 -- `encoder::encode_row` meets its contract: the goals that the check leaves open. Assumes nothing.
 use mathlib.Core.Path.{◌≡◌, refl, sym, subst, ◌∙◌}
-use Prim.Native.Nat.{◌+◌, ◌*◌, ◌/◌, ◌<◌, ◌≤◌}
+use Prim.Native.Nat.{ℕ, ◌+◌, ◌*◌, ◌/◌, ◌<◌, ◌≤◌}
 use native.Mathlib.Nat.{div-le_self, zero-mul}
 use native.Mathlib.Omega.{arith}
 use lib.ListN.{length, drop}
-use mathlib.Core.List.{◌++◌}
+use mathlib.Core.List.{List, ◌++◌}
 use borrow.Author.Rules.{rules}
 use Rattle.lists.proofs.Put.{put-none}
 use Rattle.symbols.proofs.Bytes.{known-positive, square-small}
@@ -75,12 +75,16 @@ loop-x-preserved c =
       (rw c.of-products.ensures at c.fill_fibre.ensures) _ held ∙ (rw c.loop-x.invariant.1 (next-column q u message k small c.args.row.now c.loop-x.x more)),
     )
 
+-- a row with room is filled, for the numbers that are read
+abbrev Fills : (message row row' : List ℕ) → Code → Type 0
+Fills message row row' code =
+    point_count code.q ≤ length row → row' ≡ row_numbers code.q code.u message ++ drop (point_count code.q) row
+
 pub returns : goal.returns
 returns c =
+    let q = c.code.inside.q in
     let message = c.args.message.now in
     let row = c.args.row.now in
-    let end : c.loop-x.x ≡ c.code.inside.q * c.code.inside.q = omega arith in
-    subst (λ (code : Code). point_count code.q ≤ length row → c.loop-x.row ≡ row_numbers code.q code.u message ++ drop (point_count code.q) row)
-    c.code.view_is
-    (λ room. c.loop-x.invariant.1 ∙ (rw end (all-columns c.code.inside.q c.code.inside.u message c.code.invariant.known row room)))
-    c.requires.room
+    let end : c.loop-x.x ≡ q * q = omega arith in
+    subst (Fills message row c.loop-x.row) c.code.view_is
+    (λ room. c.loop-x.invariant.1 ∙ (rw end (all-columns q c.code.inside.u message c.code.invariant.known row room))) c.requires.room

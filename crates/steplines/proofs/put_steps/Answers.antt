@@ -56,10 +56,12 @@ loop-t-init c =
     )
 
 pub take_step-vote-requires : goal.take_step-vote-requires
-take_step-vote-requires c = record {
-  room = rw c.of-products.ensures (omega (arith, c.loop-t.invariant.0, c.requires.known.1), step-due (goal.at.take_step-vote-requires c).In-loop-t);
-  same_q = c.loop-t.invariant.1 ∙ sym c.of-products.ensures;
-}
+take_step-vote-requires c =
+    let due = step-due (goal.at.take_step-vote-requires c).In-loop-t in
+    record {
+      room = rw c.of-products.ensures (omega (arith, c.loop-t.invariant.0, c.requires.known.1), due);
+      same_q = c.loop-t.invariant.1 ∙ sym c.of-products.ensures;
+    }
 
 pub put_step_line-requires-clause-area : goal.put_step_line-requires-clause-area
 put_step_line-requires-clause-area c =
@@ -76,7 +78,8 @@ put_step_line-requires-clause-shown c =
     let a = c.args in
     let begun = c.requires.started in
     let after = next-state a.q a.u begun.row c.loop-t.t _ (step-due (goal.at.put_step_line-requires-clause-shown c).In-loop-t)
-    (weight_is a.q c.loop-t.t c.step_count-count.ensures) (c.loop-t.invariant.2 begun.row begun.shows) (rw c.of-products.ensures at c.take_step-vote.ensures.stepped) in
+    (weight_is a.q c.loop-t.t c.step_count-count.ensures) (c.loop-t.invariant.2 begun.row begun.shows)
+    (rw c.of-products.ensures at c.take_step-vote.ensures.stepped) in
     record { state = _; shows = after.0; voted = after.1 }
 
 pub loop-t-preserved : goal.loop-t-preserved
@@ -85,6 +88,7 @@ loop-t-preserved c =
       c.take_step-vote.auto.work ∙ c.loop-t.invariant.0,
       c.take_step-vote.ensures.q_stays ∙ c.loop-t.invariant.1,
       λ row shows. reached-more a.q a.u row c.loop-t.t _ (step-due (goal.at.loop-t-preserved c).In-loop-t)
-          (weight_is a.q c.loop-t.t c.step_count-count.ensures) (lines_fit (goal.at.loop-t-preserved c).At-loop-t row) (c.loop-t.invariant.2 row shows)
+          (weight_is a.q c.loop-t.t c.step_count-count.ensures) (lines_fit (goal.at.loop-t-preserved c).At-loop-t row)
+          (c.loop-t.invariant.2 row shows)
           (rw c.of-products.ensures at c.take_step-vote.ensures.stepped) c.put_step_line.ensures,
     )

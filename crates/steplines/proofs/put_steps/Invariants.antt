@@ -13,4 +13,5 @@ use Rattle.steplines.proofs.put_steps.Given as goal
 abbrev pub invariant-loop-t : goal.invariant-loop-t
 invariant-loop-t l =
     (length l.work ≡ length l.initial.work) × (l.heights.q ≡ l.q)
-    × ((row : List ℕ) → Starts l.q l.initial.work (cells_of l.q (state_after l.q l.u row 0).polys) → Reached l.q l.u row l.t l.initial.page l.work l.heights.each l.page)
+    × ((row : List ℕ) → Starts l.q l.initial.work (cells_of l.q (state_after l.q l.u row 0).polys)
+        → Reached l.q l.u row l.t l.initial.page l.work l.heights.each l.page)

@@ -13,8 +13,10 @@ found c = named-code _ _ (sym c.code_of.ensures ∙ c.in_ok-code.was)
 
 pub returns : goal.returns
 returns c =
-    subst (λ (code : Code). Promised code.q code.u c.args.steps c.args.row.now c.args.work.now c.args.output.now c.stop_under.result c.stop_under.new.work c.stop_under.new.output)
-    (found (goal.at.returns c).In_ok-code).is c.stop_under.ensures
+    let a = c.args in
+    let done = c.stop_under in
+    subst (λ (code : Code). Promised code.q code.u a.steps a.row.now a.work.now a.output.now done.result done.new.work done.new.output)
+    (found (goal.at.returns c).In_ok-code).is done.ensures
 
 pub returns-in_err-code : goal.returns-in_err-code
 returns-in_err-code c =

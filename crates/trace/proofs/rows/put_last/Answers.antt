@@ -31,11 +31,14 @@ last : (c : After-code)
 last c =
     let a = c.args in
     let said = c.decode_row-answered.ensures in
-    last_line-is a.code.q a.code.u a.row.now (replicate most_points 0) c.decode_row-answered.new.message said.message_left (k-is c) said.value
+    let left = c.decode_row-answered.new.message in
+    last_line-is a.code.q a.code.u a.row.now (replicate most_points 0) left said.message_left (k-is c) said.value
 
 -- a message and a row fit into their arrays
 fits : {q u : ℕ} {row : List ℕ} → Received q u row → (dimension q u ≤ most_points) × (point_count q ≤ most_points)
-fits {q} {u} received = let most = count_small q received.known in (omega (arith, most, dimension-le q u received.code), omega (arith, most))
+fits {q} {u} received =
+    let most = count_small q received.known in
+    (omega (arith, most, dimension-le q u received.code), omega (arith, most))
 
 -- so k places of the message are there
 message-room : (c : After-code) → c.code.inside.k ≤ length c.decode_row-answered.new.message
@@ -51,7 +54,8 @@ slice_bounds-message-end c = message-room (goal.at.slice_bounds-message-end c).A
 
 pub slice_bounds-put_decoded-end : goal.slice_bounds-put_decoded-end
 slice_bounds-put_decoded-end c =
-    sym (length-take-le c.code.inside.k c.decode_row-answered.new.message (message-room (goal.at.slice_bounds-put_decoded-end c).After-code))
+    let room = message-room (goal.at.slice_bounds-put_decoded-end c).After-code in
+    sym (length-take-le c.code.inside.k c.decode_row-answered.new.message room)
 
 pub put_decoded-requires : goal.put_decoded-requires
 put_decoded-requires c =

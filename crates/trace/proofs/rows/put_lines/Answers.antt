@@ -69,6 +69,10 @@ pub put_steps-requires-clause-started : goal.put_steps-requires-clause-started
 put_steps-requires-clause-started c =
     record { row = c.args.row.now; shows = (lent (goal.at.put_steps-requires-clause-started c).After-code).3 }
 
+-- there is room for the last line
+abbrev LastRoom : Page → (work : List ℕ) → Code → Type 0
+LastRoom page work code = (area_size code.q ≤ length work) × (page.end + last_size code.q ≤ length page.out.now)
+
 pub put_last-requires-clause-room : goal.put_last-requires-clause-room
 put_last-requires-clause-room c =
     let at = goal.at.put_last-requires-clause-room c in
@@ -76,16 +80,10 @@ put_last-requires-clause-room c =
     let q = c.code.inside.q in
     let steps = c.put_steps in
     let lines = steps.ensures c.args.row.now lent.3 in
-    subst (λ (code : Code). (area_size code.q ≤ length steps.new.work) × (steps.new.page.end + last_size code.q ≤ length steps.new.page.out.now))
-    c.code.view_is (
+    let end = length-steps q c.code.inside.u c.args.row.now (step_count q) in
+    subst (LastRoom steps.new.page steps.new.work) c.code.view_is (
       omega (arith, steps.auto.work, lent.1),
-      omega (
-        arith,
-        rest-fits at.After-put_code lent,
-        length-steps q c.code.inside.u c.args.row.now (step_count q),
-        lines.wrote.place,
-        lines.same_length,
-      ),
+      omega (arith, rest-fits at.After-put_code lent, end, lines.wrote.place, lines.same_length),
     )
 
 -- the last line makes the lines of a row whole
@@ -101,6 +99,7 @@ returns c =
     let u = c.code.inside.u in
     let row = c.args.row.now in
     subst (Ends c.args.page.now row c.put_steps.new.page c.put_last.new.page) c.code.view_is
-    (wrote-all q u row (first_fits at.After-code) (omega (arith, rest-fits at.After-put_code lent, length-steps q u row (step_count q)))
+    (wrote-all q u row (first_fits at.After-code)
+    (omega (arith, rest-fits at.After-put_code lent, length-steps q u row (step_count q)))
     c.put_code.ensures (c.put_steps.ensures row lent.3))
     c.put_last.ensures
