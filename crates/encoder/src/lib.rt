@@ -25,8 +25,8 @@ pub fn encode_row(code: Code, message: &[u8], row: &mut [u8])
     let width = u / q + 1;
     let products = Products::of(q);
     for x in 0..q * q {
-        let values = column(&products, x as u8, &places, width);
-        fill_fibre(&products, x, &values, row);
+        let values = column(products, x as u8, &places, width);
+        fill_fibre(products, x, &values, row);
     }
 }
 

@@ -43,9 +43,9 @@ pub fn spread(q: usize, u: usize, message: &[u8]) -> [u8; MOST_POINTS]
 }
 
 // The values at x of the polynomials in x that stand at the powers of y.
-pub fn column(products: &Products, x: u8, places: &[u8], width: usize) -> [u8; MOST_Q]
+pub fn column(products: Products, x: u8, places: &[u8], width: usize) -> [u8; MOST_Q]
     requires { (width ≤ most_symbols) × (length places.now ≡ most_points) }
-    ensures { IsColumn products.now.q width x places.now result }
+    ensures { IsColumn products.q width x places.now result }
 {
     let q = products.q;
     let by_x = products.row(x);
@@ -59,9 +59,9 @@ pub fn column(products: &Products, x: u8, places: &[u8], width: usize) -> [u8; M
 }
 
 // The symbols of the row at the points above x, from the values there.
-pub fn fill_fibre(products: &Products, x: usize, values: &[u8], row: &mut [u8])
-    requires { (x < products.now.q * products.now.q) × (length values.now ≡ most_q) × (point_count products.now.q ≤ length row.old) }
-    ensures { IsFibre products.now.q x values.now row.old row.new }
+pub fn fill_fibre(products: Products, x: usize, values: &[u8], row: &mut [u8])
+    requires { (x < products.q * products.q) × (length values.now ≡ most_q) × (point_count products.q ≤ length row.old) }
+    ensures { IsFibre products.q x values.now row.old row.new }
 {
     let q = products.q;
     let ordinates = ordinates::ordinates(q, products.row(x as u8));

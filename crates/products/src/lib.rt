@@ -3,23 +3,24 @@
 
 mod tables;
 
-ghost use Rattle.std.specs.Prelude.{◌≡◌, ◌+◌, ◌≤◌, length, replicate};
+ghost use Rattle.std.specs.Prelude.{◌≡◌, ◌+◌, ◌*◌, ◌≤◌, length, replicate};
 ghost use Rattle.symbols.specs.Sizes.{most_q, most_symbols};
 ghost use Rattle.symbols.specs.Rule.{Known, Known-prop, symbols, number, symbol};
 ghost use Rattle.symbols.specs.Tables.{product_row, places_on, HasProducts};
 ghost use Rattle.lists.specs.Tables.{put};
 
-use symbols::{MOST_SYMBOLS, TABLE_SIZE};
+use symbols::MOST_SYMBOLS;
 
-// A known q and the products of its symbols, which stand in the first of the places. Who takes many products makes it once and
-// lends it on.
-#[derive(Drop)]
+// A known q and the products of its symbols, which stand in a table. It is passed on by value, a number and where the table stands: so
+// the compiler knows q in each loop, which it does not where it reads q behind a reference.
+#[derive(Clone, Copy)]
 pub struct Products {
     pub q: usize,
-    places: [u8; TABLE_SIZE],
+    places: &'static [u8],
     pub ghost known: { Known q } by { Known-prop q },
     pub ghost small: { q ≤ most_q },
-    ghost complete: { HasProducts q places },
+    ghost long: { q * q * q * q ≤ length places.now },
+    ghost complete: { HasProducts q places.now },
 }
 
 // The N places of a row from a start on in its table, copied at once, and zeros in the others. They are added to zeros: the compiler
@@ -45,33 +46,36 @@ impl Products {
         if q == 4 {
             return Products {
                 q,
-                places: tables::PRODUCTS_4,
+                places: &tables::TABLE_4,
             };
         }
-        let mut places = [0u8; TABLE_SIZE];
-        places[..16].copy_from_slice(&tables::PRODUCTS_2);
-        Products { q, places }
+        Products {
+            q,
+            places: &tables::TABLE_2,
+        }
     }
 
     // The products of `a` by all symbols, for loops with one factor: place b holds the product by b.
-    pub fn row(&self, a: u8) -> [u8; MOST_SYMBOLS]
-        ensures { result ≡ product_row self.now.q a }
+    pub fn row(self, a: u8) -> [u8; MOST_SYMBOLS]
+        ensures { result ≡ product_row self.q a }
     {
+        let places = self.places;
         if self.q == 4 {
-            part_of::<16>(&self.places, (a % 16) as usize * 16)
+            part_of::<16>(places, (a % 16) as usize * 16)
         } else {
-            part_of::<4>(&self.places, (a % 4) as usize * 4)
+            part_of::<4>(places, (a % 4) as usize * 4)
         }
     }
 
     // The product of two symbols.
-    pub fn product(&self, a: u8, b: u8) -> u8
-        ensures { result ≡ number self.now.q ((symbols self.now.q).◌⊗◌ (symbol self.now.q a) (symbol self.now.q b)) }
+    pub fn product(self, a: u8, b: u8) -> u8
+        ensures { result ≡ number self.q ((symbols self.q).◌⊗◌ (symbol self.q a) (symbol self.q b)) }
     {
+        let places = self.places;
         if self.q == 4 {
-            self.places[(a % 16) as usize * 16 + (b % 16) as usize]
+            places[(a % 16) as usize * 16 + (b % 16) as usize]
         } else {
-            self.places[(a % 4) as usize * 4 + (b % 4) as usize]
+            places[(a % 4) as usize * 4 + (b % 4) as usize]
         }
     }
 }

@@ -56,10 +56,10 @@ fn add_part(
 
 // The received symbols above the x with number a, times the parts in y of their points.
 #[tactic(auto, using(crate::proofs::StartColumns::column_places))]
-fn column_sums(products: &Products, row: &[u8], a: usize) -> [u8; MOST_SYMBOLS]
-    requires row_len { (length row.now ≡ point_count products.now.q) × (any_beyond products.now.q row.now ≡ false) }
-    requires a_bound { a < products.now.q * products.now.q }
-    ensures { let q = products.now.q in Holds q result q (column_sum q row.now a q) }
+fn column_sums(products: Products, row: &[u8], a: usize) -> [u8; MOST_SYMBOLS]
+    requires row_len { (length row.now ≡ point_count products.q) × (any_beyond products.q row.now ≡ false) }
+    requires a_bound { a < products.q * products.q }
+    ensures { let q = products.q in Holds q result q (column_sum q row.now a q) }
 {
     let q = products.q;
     let ordinates = ordinates::ordinates(q, products.row(a as u8));
@@ -94,11 +94,11 @@ fn subtract_values(
 
 // Subtracts from the lower part of f_0 what the points above the x with number a give to h: the part in x of such a point is
 // 1 - Σ x^i·a^(q²-1-i).
-fn subtract_column(products: &Products, work: &mut [u8], row: &[u8], a: usize)
-    requires area { Area products.now.q (length work.old) }
-    requires row_len { (length row.now ≡ point_count products.now.q) × (any_beyond products.now.q row.now ≡ false) }
-    requires a_bound { a < products.now.q * products.now.q }
-    ensures { let q = products.now.q in Turns q work.old work.new (rows_minus q q q q (column_of q row.now a)) }
+fn subtract_column(products: Products, work: &mut [u8], row: &[u8], a: usize)
+    requires area { Area products.q (length work.old) }
+    requires row_len { (length row.now ≡ point_count products.q) × (any_beyond products.q row.now ≡ false) }
+    requires a_bound { a < products.q * products.q }
+    ensures { let q = products.q in Turns q work.old work.new (rows_minus q q q q (column_of q row.now a)) }
 {
     let q = products.q;
     let sums = column_sums(products, row, a);
@@ -113,10 +113,10 @@ fn subtract_column(products: &Products, work: &mut [u8], row: &[u8], a: usize)
 }
 
 // Subtracts h from the lower part of f_0.
-fn subtract_h(products: &Products, work: &mut [u8], row: &[u8])
-    requires area { Area products.now.q (length work.old) }
-    requires row_len { (length row.now ≡ point_count products.now.q) × (any_beyond products.now.q row.now ≡ false) }
-    ensures { let q = products.now.q in Turns q work.old work.new (rows_minus q q q q (columns_of q row.now (q * q))) }
+fn subtract_h(products: Products, work: &mut [u8], row: &[u8])
+    requires area { Area products.q (length work.old) }
+    requires row_len { (length row.now ≡ point_count products.q) × (any_beyond products.q row.now ≡ false) }
+    ensures { let q = products.q in Turns q work.old work.new (rows_minus q q q q (columns_of q row.now (q * q))) }
 {
     for a in 0..products.q * products.q {
         subtract_column(products, work, row, a);
@@ -124,10 +124,10 @@ fn subtract_h(products: &Products, work: &mut [u8], row: &[u8])
 }
 
 // Adds y^i times a part of polynomial `first` to that of the polynomial i places on.
-fn add_multiple(products: &Products, work: &mut [u8], first: usize, row: usize, i: usize)
-    requires area { Area products.now.q (length work.old) }
-    requires first_le_q { (first ≤ products.now.q) × (row ≤ products.now.q) × (0 < i) × (i < products.now.q) }
-    ensures { let q = products.now.q in Turns q work.old work.new (multiple_added q first row i) }
+fn add_multiple(products: Products, work: &mut [u8], first: usize, row: usize, i: usize)
+    requires area { Area products.q (length work.old) }
+    requires first_le_q { (first ≤ products.q) × (row ≤ products.q) × (0 < i) × (i < products.q) }
+    ensures { let q = products.q in Turns q work.old work.new (multiple_added q first row i) }
 {
     let to = Row {
         polynomial: first + i,
@@ -144,10 +144,10 @@ fn add_multiple(products: &Products, work: &mut [u8], first: usize, row: usize, 
 }
 
 // Makes g_i and f_i of g_0 and f_0; g_i has no upper part.
-fn add_multiples(products: &Products, work: &mut [u8], i: usize)
-    requires area { Area products.now.q (length work.old) }
-    requires i_nonzero { (0 < i) × (i < products.now.q) }
-    ensures { let q = products.now.q in
+fn add_multiples(products: Products, work: &mut [u8], i: usize)
+    requires area { Area products.q (length work.old) }
+    requires i_nonzero { (0 < i) × (i < products.q) }
+    ensures { let q = products.q in
         (h : List (List (Sym q))) (rest : List ℕ) → work.old ≡ shown q (begun q h i) ++ rest
         → work.new ≡ shown q (begun q h (i + 1)) ++ rest }
 {
@@ -158,9 +158,9 @@ fn add_multiples(products: &Products, work: &mut [u8], i: usize)
 }
 
 // Makes all of them.
-fn add_all_multiples(products: &Products, work: &mut [u8])
-    requires { Area products.now.q (length work.old) }
-    ensures { let q = products.now.q in
+fn add_all_multiples(products: Products, work: &mut [u8])
+    requires { Area products.q (length work.old) }
+    ensures { let q = products.q in
         (h : List (List (Sym q))) (rest : List ℕ) → work.old ≡ shown q (begun q h 1) ++ rest
         → work.new ≡ shown q (begun q h q) ++ rest }
 {
@@ -171,10 +171,10 @@ fn add_all_multiples(products: &Products, work: &mut [u8])
 
 // Puts the polynomials before the first step on a received row into the work area.
 #[tactic(auto, using(workarea::proofs::Cells::still, workarea::proofs::Sizes::area_of))]
-pub fn begin(products: &Products, row: &[u8], work: &mut [u8])
-    requires row_len { (length row.now ≡ point_count products.now.q) × (any_beyond products.now.q row.now ≡ false) }
-    requires q_in_bounds { area_size products.now.q ≤ length work.old }
-    ensures { let q = products.now.q in work.new
+pub fn begin(products: Products, row: &[u8], work: &mut [u8])
+    requires row_len { (length row.now ≡ point_count products.q) × (any_beyond products.q row.now ≡ false) }
+    requires q_in_bounds { area_size products.q ≤ length work.old }
+    ensures { let q = products.q in work.new
         ≡ picture (symbols q) q (start (symbols q) q (map (symbol q) row.now)) ++ drop (area_size q) work.old }
 {
     let q = products.q;

@@ -51,16 +51,16 @@ fn negative_at(work: &[u8], q: usize, i: usize, partner: usize, k: i64) -> u8
 
 // w_i and μ_i in a step that votes, where `lead` is the leading coefficient of f_i.
 fn in_voted_step(
-    products: &Products,
+    products: Products,
     work: &[u8],
     i: usize,
     partner: usize,
     k: i64,
     lead: u8,
 ) -> NamedSymbol
-    requires area { Area products.now.q (length work.now) }
-    requires i_lt_q { (i < products.now.q) × (partner < products.now.q) × (nat_abs k ≤ most_degree) }
-    ensures { let q = products.now.q in
+    requires area { Area products.q (length work.now) }
+    requires i_lt_q { (i < products.q) × (partner < products.q) × (nat_abs k ≤ most_degree) }
+    ensures { let q = products.q in
         (S : Polynomials (symbols q) q) (μ : Sym q) → Narrow q (cells_of q S) → Starts q work.now (cells_of q S)
         → lead ≡ number q μ → NamedAs q result (in_voted_step (symbols q) q k (looked (symbols q) q S i partner k) μ) }
 {
@@ -92,18 +92,18 @@ fn in_unvoted_step(work: &[u8], q: usize, i: usize, partner: usize, k: i64) -> N
 
 // The numbers of pair i at step s, for a step that votes or does not.
 fn pair_of(
-    products: &Products,
+    products: Products,
     work: &[u8],
     heights: &Heights,
     i: usize,
     s: usize,
     voted: bool,
 ) -> Pair
-    requires area { Area products.now.q (length work.now) }
-    requires same_q { heights.now.q ≡ products.now.q }
-    requires i_lt_q { (i < products.now.q) × (s ≤ most_weight) }
-    ensures held { Held products.now.q result }
-    ensures numbers_of { let q = products.now.q in
+    requires area { Area products.q (length work.now) }
+    requires same_q { heights.now.q ≡ products.q }
+    requires i_lt_q { (i < products.q) × (s ≤ most_weight) }
+    ensures held { Held products.q result }
+    ensures numbers_of { let q = products.q in
         (S : Polynomials (symbols q) q) (u : ℕ) → Narrow q (cells_of q S) → WithinHeights q heights.now.each (cells_of q S)
         → Starts q work.now (cells_of q S) → is_voted q u s ≡ voted → NumbersOf q result (pairing (symbols q) q u s S i) }
 {
@@ -130,17 +130,17 @@ fn pair_of(
 
 // The numbers of all pairs.
 pub fn pairs_of(
-    products: &Products,
+    products: Products,
     work: &[u8],
     heights: &Heights,
     s: usize,
     voted: bool,
 ) -> [Pair; MOST_Q]
-    requires area { Area products.now.q (length work.now) }
-    requires same_q { heights.now.q ≡ products.now.q }
+    requires area { Area products.q (length work.now) }
+    requires same_q { heights.now.q ≡ products.q }
     requires s_le_most_weight { s ≤ most_weight }
-    ensures held { (i : ℕ) → i < products.now.q → Held products.now.q (pair_at result i) }
-    ensures numbers_of { let q = products.now.q in
+    ensures held { (i : ℕ) → i < products.q → Held products.q (pair_at result i) }
+    ensures numbers_of { let q = products.q in
         (S : Polynomials (symbols q) q) (u : ℕ) → Narrow q (cells_of q S) → WithinHeights q heights.now.each (cells_of q S)
         → Starts q work.now (cells_of q S) → is_voted q u s ≡ voted
         → (i : ℕ) → i < q → NumbersOf q (pair_at result i) (pairing (symbols q) q u s S i) }

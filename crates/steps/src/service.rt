@@ -32,8 +32,8 @@ fn note_vote(q: usize, u: usize, done: usize, left: usize, vote: u8, votes: &mut
 }
 
 // Does the first steps, from the start on.
-fn take_steps(products: &Products, code: Code, steps: usize, work: &mut [u8], votes: &mut [u8])
-    requires steps { (steps ≤ step_count code.q) × (products.now.q ≡ code.q) }
+fn take_steps(products: Products, code: Code, steps: usize, work: &mut [u8], votes: &mut [u8])
+    requires steps { (steps ≤ step_count code.q) × (products.q ≡ code.q) }
     requires room { (area_size code.q ≤ length work.old) × (dimension code.q code.u ≤ length votes.old) }
     ensures { (row rest rest' : List ℕ) → work.old ≡ picture_after code.q code.u row 0 ++ rest
         → votes.old ≡ votes_after code.q code.u row 0 ++ rest'
@@ -57,9 +57,9 @@ pub fn advance(code: Code, steps: usize, row: &[u8], work: &mut [u8], votes: &mu
     ensures votes_left { votes.new ≡ votes_after code.q code.u row.now steps ++ drop (dimension code.q code.u) votes.old }
 {
     let products = Products::of(code.q);
-    startarea::begin(&products, row, work);
+    startarea::begin(products, row, work);
     workarea::clear(votes, code.k);
-    take_steps(&products, code, steps, work, votes);
+    take_steps(products, code, steps, work, votes);
 }
 
 // Stopping under a code: refused with 3 to 7, or done.

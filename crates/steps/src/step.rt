@@ -30,16 +30,16 @@ pub fn step_count(q: usize) -> usize
 // Does the step after `done` steps and gives its vote, 0 where there is none.
 #[tactic(auto, using(workarea::proofs::Sizes::area_of), unfolding(published::specs::Start::step_count))]
 pub fn take_step(
-    products: &Products,
+    products: Products,
     u: usize,
     done: usize,
     work: &mut [u8],
     heights: &mut Heights,
 ) -> u8
-    requires room { (area_size products.now.q ≤ length work.old) × (done < step_count products.now.q) }
-    requires same_q { heights.old.q ≡ products.now.q }
+    requires room { (area_size products.q ≤ length work.old) × (done < step_count products.q) }
+    requires same_q { heights.old.q ≡ products.q }
     ensures q_stays { heights.new.q ≡ heights.old.q }
-    ensures stepped { let q = products.now.q in
+    ensures stepped { let q = products.q in
         (row : List ℕ) (rest : List ℕ) → work.old ≡ picture_after q u row done ++ rest → BelowAfter q u row done heights.old.each
         → Stepped q u row done rest result work.new × BelowAfter q u row (done + 1) heights.new.each }
 {

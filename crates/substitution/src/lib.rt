@@ -144,11 +144,11 @@ pub fn replace_z(
 }
 
 // z becomes z + vote·(monomial of s) in all polynomials, and nothing changes for a vote of 0.
-pub fn substitute(products: &Products, work: &mut [u8], heights: &Heights, s: usize, vote: u8)
-    requires area { Area products.now.q (length work.old) }
-    requires same_q { heights.now.q ≡ products.now.q }
-    requires s_le_most_degree { (s ≤ most_degree) × ((vote ≡ 0 → ⊥) → gap products.now.q s ≡ false) }
-    ensures { let q = products.now.q in
+pub fn substitute(products: Products, work: &mut [u8], heights: &Heights, s: usize, vote: u8)
+    requires area { Area products.q (length work.old) }
+    requires same_q { heights.now.q ≡ products.q }
+    requires s_le_most_degree { (s ≤ most_degree) × ((vote ≡ 0 → ⊥) → gap products.q s ≡ false) }
+    ensures { let q = products.q in
         (S : Polynomials (symbols q) q) (ω : Sym q) → vote ≡ number q ω → WithinHeights q heights.now.each (cells_of q S)
         → Becomes q work.old work.new S (substituted (symbols q) q s ω S) }
 {

@@ -75,8 +75,8 @@ fn exchange_polynomials(
 }
 
 // r = μ_i(w - w_i)/ν.
-fn ratio_of(products: &Products, vote: u8, w: u8, mu: u8, nu: u8) -> u8
-    ensures { let q = products.now.q in
+fn ratio_of(products: Products, vote: u8, w: u8, mu: u8, nu: u8) -> u8
+    ensures { let q = products.q in
         (ω : Sym q) (P : Pairing (symbols q) q) → vote ≡ number q ω → w ≡ number q P.w → mu ≡ number q P.μ → nu ≡ number q P.ν
         → result ≡ number q (ratio (symbols q) q ω P) }
 {
@@ -87,18 +87,18 @@ fn ratio_of(products: &Products, vote: u8, w: u8, mu: u8, nu: u8) -> u8
 
 // What pair i does after the substitution: an exchange where c > 0, else f_i is reduced; the shift is c without its sign.
 fn change(
-    products: &Products,
+    products: Products,
     work: &mut [u8],
     heights: &mut Heights,
     i: usize,
     pair: Pair,
     vote: u8,
 )
-    requires area { Area products.now.q (length work.old) }
-    requires same_q { heights.old.q ≡ products.now.q }
-    requires i_lt_q { (i < products.now.q) × Held products.now.q pair }
+    requires area { Area products.q (length work.old) }
+    requires same_q { heights.old.q ≡ products.q }
+    requires i_lt_q { (i < products.q) × Held products.q pair }
     ensures q_stays { heights.new.q ≡ heights.old.q }
-    ensures becomes_below { let q = products.now.q in
+    ensures becomes_below { let q = products.q in
         (S : Polynomials (symbols q) q) (ω : Sym q) (P : Pairing (symbols q) q) → vote ≡ number q ω → NumbersOf q pair P
         → WithinHeights q heights.old.each (cells_of q S)
         → BecomesBelow q work.old work.new S (changed (symbols q) q ω i P S) heights.new.each }
@@ -122,17 +122,17 @@ fn change(
 
 // The update of all pairs.
 pub fn change_all(
-    products: &Products,
+    products: Products,
     work: &mut [u8],
     heights: &mut Heights,
     pairs: [Pair; MOST_Q],
     vote: u8,
 )
-    requires area { Area products.now.q (length work.old) }
-    requires same_q { heights.old.q ≡ products.now.q }
-    requires held { (i : ℕ) → i < products.now.q → Held products.now.q (pair_at pairs i) }
+    requires area { Area products.q (length work.old) }
+    requires same_q { heights.old.q ≡ products.q }
+    requires held { (i : ℕ) → i < products.q → Held products.q (pair_at pairs i) }
     ensures q_stays { heights.new.q ≡ heights.old.q }
-    ensures becomes_below { let q = products.now.q in
+    ensures becomes_below { let q = products.q in
         (S : Polynomials (symbols q) q) (ω : Sym q) (P : ℕ → Pairing (symbols q) q) → vote ≡ number q ω
         → ((i : ℕ) → i < q → NumbersOf q (pair_at pairs i) (P i)) → WithinHeights q heights.old.each (cells_of q S)
         → BecomesBelow q work.old work.new S (updated (symbols q) q ω (tab q P) S q) heights.new.each }

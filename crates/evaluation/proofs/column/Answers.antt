@@ -14,13 +14,13 @@ loop-j-init c = λ f held. sym (put-none _ _ _)
 
 pub loop-j-preserved : goal.loop-j-preserved
 loop-j-preserved c = λ f held.
-    let q = c.args.products.now.q in
+    let q = c.args.products.q in
     let j = c.loop-j.j in
     let width = c.args.width in
     let n : j * most_symbols + width - j * most_symbols ≡ width = omega arith in
     rw (c.loop-j.invariant f held)
     (put_next (replicate most_q 0) j (column_number q f width c.args.x) c.value_in.result
-    (column-value q c.args.products.now.known c.row-by_x.result c.value_in.result f c.args.places.now
+    (column-value q c.args.products.known c.row-by_x.result c.value_in.result f c.args.places.now
     c.args.x j (j * most_symbols + width - j * most_symbols)
     (omega arith) (omega arith) c.requires.1 held c.row-by_x.ensures c.value_in.ensures
     ∙ ap (λ m. column_number q f m c.args.x j) n))

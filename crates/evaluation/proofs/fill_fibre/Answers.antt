@@ -18,13 +18,13 @@ bounds-row-start c =
 
 pub loop-b-preserved : goal.loop-b-preserved
 loop-b-preserved c = λ v held.
-    let q = c.args.products.now.q in
+    let q = c.args.products.q in
     let b = c.loop-b.b in
     let above = c.ordinates-ordinates.ensures _ c.row.ensures in
     let e = c.row-by_y.ensures ∙ ap (λ l. product_row q (get_or l b 0)) above in
     rw (
       c.loop-b.invariant v held,
-      fibre-value q c.args.products.now.known c.row-by_y.result c.value_in.result v
+      fibre-value q c.args.products.known c.row-by_y.result c.value_in.result v
           c.args.values.now c.args.x b
           c.requires.0 (omega arith) c.requires.1 held e c.value_in.ensures,
     )

@@ -6,4 +6,4 @@ use Rattle.startarea.proofs.add_multiple.Goals as goal
 
 pub returns : goal.returns
 returns c =
-    rw c.width_of-width.ensures at (c.add_product.ensures (symbols c.args.products.now.q).𝟙 (rw c.row.ensures (multiplies-one _ c.requires.area.known)))
+    rw c.width_of-width.ensures at (c.add_product.ensures (symbols c.args.products.q).𝟙 (rw c.row.ensures (multiplies-one _ c.requires.area.known)))

@@ -18,7 +18,7 @@ loop-j-init c = turns_same _ (λ S p r i hp hr hi. minus-none _ c.requires.area.
 
 pub subtract_values-requires : goal.subtract_values-requires
 subtract_values-requires c =
-    let fits = row_fits c.args.products.now.q (c.args.products.now.q + c.loop-j.j) c.requires.area (omega (arith, c.requires.area.some)) (omega (arith, c.loop-j-test.true)) in
+    let fits = row_fits c.args.products.q (c.args.products.q + c.loop-j.j) c.requires.area (omega (arith, c.requires.area.some)) (omega (arith, c.loop-j-test.true)) in
     omega (arith, fits, sizes _ c.requires.area.known)
 
 pub loop-j-preserved : goal.loop-j-preserved

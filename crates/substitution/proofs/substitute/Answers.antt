@@ -20,7 +20,7 @@ returns-in_default c =
 pub replace_z-requires-clause-y_lt_q : goal.replace_z-requires-clause-y_lt_q
 replace_z-requires-clause-y_lt_q c =
     let it = found _ _ _ (sym c.monomial_of.ensures ∙ c.in-Some.is) in
-    let b = powers-small c.args.products.now.q c.args.s (omega (arith, c.requires.area.some)) in
+    let b = powers-small c.args.products.q c.args.s (omega (arith, c.requires.area.some)) in
     rw (it.power-x, it.power-y) (b.0, omega (arith, b.1))
 
 pub returns : goal.returns

@@ -29,7 +29,7 @@ returns-then-pair-gt0-clause-becomes_below c = let known = c.requires.area.known
     let shift = c.unsigned_abs-shift.ensures.value ∙ ap nat_abs (back z held.c) ∙ up.0 ∙ ap positive_part n.c in
     let few = rw n.partner at held.partner in
     becomes-exchanged _ known _ _ (rw c.requires.same_q at c.args.heights.now.low) S _ below _ _ _ _ (omega (arith, hi)) (omega (arith, few)) (λ d. omega (arith, few))
-    (rw (n.partner, shift) at (c.exchange_polynomials.ensures (ratio (symbols c.args.products.now.q) c.args.products.now.q ω P) (rw (c.row-row.ensures, found) (multiplies-symbol _ known (ratio (symbols c.args.products.now.q) c.args.products.now.q ω P)))))
+    (rw (n.partner, shift) at (c.exchange_polynomials.ensures (ratio (symbols c.args.products.q) c.args.products.q ω P) (rw (c.row-row.ensures, found) (multiplies-symbol _ known (ratio (symbols c.args.products.q) c.args.products.q ω P)))))
     (rw (c.requires.same_q, n.partner, shift) at c.exchange.ensures.exchanged)
     (changed-raised _ known S ω _ P (λ d. c.if-pair-vote.false (n.w ∙ d ∙ sym ev)) (rw n.c at up.1) few)
 
@@ -45,7 +45,7 @@ returns-else-pair-gt0-clause-becomes_below c = let known = c.requires.area.known
     let few = rw n.partner at held.partner in
     let height = rw n.partner at c.of.ensures.value in
     becomes-reduced _ known _ _ (rw c.requires.same_q at c.args.heights.now.low) S _ below _ _ _ _ (omega (arith, hi)) (omega (arith, few)) _
-    (rw (n.partner, shift) at (c.reduce_polynomial.ensures (ratio (symbols c.args.products.now.q) c.args.products.now.q ω P) (rw (c.row-row.ensures, found) (multiplies-symbol _ known (ratio (symbols c.args.products.now.q) c.args.products.now.q ω P)))))
+    (rw (n.partner, shift) at (c.reduce_polynomial.ensures (ratio (symbols c.args.products.q) c.args.products.q ω P) (rw (c.row-row.ensures, found) (multiplies-symbol _ known (ratio (symbols c.args.products.q) c.args.products.q ω P)))))
     (rw (c.requires.same_q, n.partner, shift) at c.add.ensures.added)
     (changed-reduced _ known S ω _ P _ (λ r m hr hm past. below.above _ r m (omega (arith, few)) hr hm (rw height at past))
     (λ d. c.if-pair-vote.false (n.w ∙ d ∙ sym ev)) (ap positive_part (sym n.c) ∙ down.1))

@@ -16,8 +16,8 @@ use Rattle.updates.proofs.change_all.Goals as goal
 use Rattle.updates.proofs.change_all.Goals.{Start, In-loop-i}
 
 -- the pairs that the loop goes over are q
-long : (c : Start) → length (take c.args.products.now.q c.args.pairs) ≡ c.args.products.now.q
-long c = length-take-le c.args.products.now.q c.args.pairs (omega (arith, sizes _ c.requires.area.known))
+long : (c : Start) → length (take c.args.products.q c.args.pairs) ≡ c.args.products.q
+long c = length-take-le c.args.products.q c.args.pairs (omega (arith, sizes _ c.requires.area.known))
 
 pub loop-i-init : goal.loop-i-init
 loop-i-init c = (
@@ -29,10 +29,10 @@ loop-i-init c = (
 )
 
 -- the pair of this turn
-turn-is : (c : In-loop-i) → (c.loop-i.i < c.args.products.now.q) × ((d : Pair) → get_or (take c.args.products.now.q c.args.pairs) c.loop-i.i d ≡ get_or c.args.pairs c.loop-i.i d)
+turn-is : (c : In-loop-i) → (c.loop-i.i < c.args.products.q) × ((d : Pair) → get_or (take c.args.products.q c.args.pairs) c.loop-i.i d ≡ get_or c.args.pairs c.loop-i.i d)
 turn-is c =
-    let more : c.loop-i.i < c.args.products.now.q = omega (arith, c.loop-i-test.true, length-take-le c.args.products.now.q c.args.pairs (omega (arith, sizes _ c.requires.area.known))) in
-    (more, λ d. get_or-take c.args.products.now.q c.args.pairs c.loop-i.i d more)
+    let more : c.loop-i.i < c.args.products.q = omega (arith, c.loop-i-test.true, length-take-le c.args.products.q c.args.pairs (omega (arith, sizes _ c.requires.area.known))) in
+    (more, λ d. get_or-take c.args.products.q c.args.pairs c.loop-i.i d more)
 
 pub loop-i-preserved : goal.loop-i-preserved
 loop-i-preserved c =

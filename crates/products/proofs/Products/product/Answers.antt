@@ -1,4 +1,5 @@
 -- `products::Products::product` meets its contract: the place read holds the product. Assumes nothing.
+use native.Mathlib.Omega.{arith}
 use Rattle.symbols.specs.Rule.{size}
 use Rattle.symbols.specs.Tables.{product_number}
 use Rattle.symbols.proofs.Bytes.{known-other}
@@ -9,10 +10,15 @@ pub returns-then-self-eq4 : goal.returns-then-self-eq4
 unfolding size product_number
 returns-then-self-eq4 c =
     let e = c.if-self-eq4.true in
-    rw e (product-of-list 4 c.args.a c.args.b _ (rw e at c.args.self.now.complete))
+    rw e (product-of-list 4 c.args.a c.args.b _ (rw e at c.args.self.complete))
 
 pub returns-else-self-eq4 : goal.returns-else-self-eq4
 unfolding size product_number
 returns-else-self-eq4 c =
-    let e = known-other _ c.args.self.now.known c.if-self-eq4.false in
-    rw e (product-of-list 2 c.args.a c.args.b _ (rw e at c.args.self.now.complete))
+    let e = known-other _ c.args.self.known c.if-self-eq4.false in
+    rw e (product-of-list 2 c.args.a c.args.b _ (rw e at c.args.self.complete))
+
+pub bounds-places-a-else-self-eq4 : goal.bounds-places-a-else-self-eq4
+bounds-places-a-else-self-eq4 c =
+    let long = rw (known-other _ c.args.self.known c.if-self-eq4.false) at c.args.self.long in
+    omega (arith, long)

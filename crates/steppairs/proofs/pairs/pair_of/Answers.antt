@@ -67,23 +67,23 @@ numbers {q} {n} {a} {i} {s} {k} {degree} area below light narrow e short =
     }
 
 numbers_at : (c : After-leading_of-g)
-    → Numbers c.args.products.now.q (c.args.products.now.q * c.leading_below-f.result.degree + (c.args.products.now.q + 1) * c.args.i + c.args.s) c.quotient_of-k.result c.leading_of-g.result.degree
+    → Numbers c.args.products.q (c.args.products.q * c.leading_below-f.result.degree + (c.args.products.q + 1) * c.args.i + c.args.s) c.quotient_of-k.result c.leading_of-g.result.degree
 numbers_at c =
     numbers c.requires.area c.requires.i_lt_q.0 c.requires.i_lt_q.1 c.leading_below-f.ensures.degree_bound c.quotient_of-k.ensures
     c.leading_of-g.ensures.degree_bound
 
 -- the leading symbol of f_i: the height is that of the upper row that is read
-leads : (c : After-leading_below-f) → (S : Polynomials (symbols c.args.products.now.q) c.args.products.now.q) → WithinHeights c.args.products.now.q c.args.heights.now.each (cells_of c.args.products.now.q S)
-    → Starts c.args.products.now.q c.args.work.now (cells_of c.args.products.now.q S)
-    → LeadingOf c.args.products.now.q c.leading_below-f.result (cells_of c.args.products.now.q S (c.args.products.now.q + c.args.i) c.args.i)
+leads : (c : After-leading_below-f) → (S : Polynomials (symbols c.args.products.q) c.args.products.q) → WithinHeights c.args.products.q c.args.heights.now.each (cells_of c.args.products.q S)
+    → Starts c.args.products.q c.args.work.now (cells_of c.args.products.q S)
+    → LeadingOf c.args.products.q c.leading_below-f.result (cells_of c.args.products.q S (c.args.products.q + c.args.i) c.args.i)
 leads c S below z =
-    let short : Short c.args.products.now.q c.of.result (cells_of c.args.products.now.q S (c.args.products.now.q + c.args.i) c.args.i) =
+    let short : Short c.args.products.q c.of.result (cells_of c.args.products.q S (c.args.products.q + c.args.i) c.args.i) =
     record { zeros = λ n h l. below.above _ _ n (omega (arith, c.requires.i_lt_q.0)) c.requires.i_lt_q.0 l (rw c.of.ensures.value at h) } in
     c.leading_below-f.ensures.leading_of (cells_of _ S) z short
 
 -- the bounds of the pair, where its partner is what the remainder gave
 held : (c : After-leading_of-g) (w mu : ℕ)
-    → Held c.args.products.now.q (record { partner = c.remainder-partner.result; c = difference c.leading_of-g.result.degree c.quotient_of-k.result; w = w; mu = mu; nu = c.leading_of-g.result.coefficient })
+    → Held c.args.products.q (record { partner = c.remainder-partner.result; c = difference c.leading_of-g.result.degree c.quotient_of-k.result; w = w; mu = mu; nu = c.leading_of-g.result.coefficient })
 held c w mu =
     let all = numbers_at c in record { partner = rw c.remainder-partner.ensures all.parts.part; c = all.c-small }
 

@@ -22,10 +22,10 @@ abbrev Asked : (steps q : ℕ) (work votes : List ℕ) → Code → Type 0
 Asked steps q work votes code =
     (steps ≤ step_count code.q) × (q ≡ code.q) × (area_size code.q ≤ length work) × (dimension code.q code.u ≤ length votes)
 
-asked : (c : After-code) → (c.args.steps ≤ step_count c.code.inside.q) × (c.args.products.now.q ≡ c.code.inside.q)
+asked : (c : After-code) → (c.args.steps ≤ step_count c.code.inside.q) × (c.args.products.q ≡ c.code.inside.q)
     × (area_size c.code.inside.q ≤ length c.args.work.now) × (dimension c.code.inside.q c.code.inside.u ≤ length c.args.votes.now)
 asked c =
-    subst (Asked c.args.steps c.args.products.now.q c.args.work.now c.args.votes.now) (sym c.code.view_is)
+    subst (Asked c.args.steps c.args.products.q c.args.work.now c.args.votes.now) (sym c.code.view_is)
     (c.requires.steps.0, c.requires.steps.1, c.requires.room.0, c.requires.room.1)
 
 pub loop-done-init : goal.loop-done-init
