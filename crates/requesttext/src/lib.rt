@@ -1,7 +1,7 @@
 // The text that asks for the trace of a row: its two lines written, and whether a text is that one.
 #![tactic(auto)]
 
-ghost use Rattle.std.specs.Prelude.{[], ◌∷◌, ◌≡◌, ◌+◌, ◌≤◌, ◌<◌, length};
+ghost use Rattle.std.specs.Prelude.{[], ◌∷◌, ◌≡◌, ◌≤◌, ◌<◌, length};
 ghost use Rattle.lines.specs.Page.{Put, Room};
 ghost use Rattle.asking.specs.Request.{line, request};
 ghost use Rattle.lists.specs.Same.{same_list};
