@@ -16,6 +16,7 @@ fn main(rt: HostRuntime) -> io::Result<()> {
     if files::word_count(&rt) != 3 {
         return println!(rt; "usage: blockcheck BLOCK PAYLOAD");
     }
+    // Arrays of the largest sizes, each with how much of it was read: nothing here allocates.
     let mut block = [0u8; 32777];
     let Some(block_end) = files::load(&rt, 1, &mut block) else {
         return Ok(());

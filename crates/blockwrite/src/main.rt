@@ -17,6 +17,7 @@ fn main(rt: HostRuntime) -> io::Result<()> {
     if files::word_count(&rt) != 3 {
         return println!(rt; "usage: blockwrite PAYLOAD BLOCK");
     }
+    // Arrays of the largest sizes, each with how much of it is used: nothing here allocates.
     let mut payload = [0u8; 20481];
     let Some(end) = files::load(&rt, 1, &mut payload) else {
         return Ok(());

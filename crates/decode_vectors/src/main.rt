@@ -63,6 +63,7 @@ fn try_work(rt: &impl Print, size: usize) -> io::Result<()> {
 }
 
 fn main(rt: HostRuntime) -> io::Result<()> {
+    // an array, with how much of it was read: nothing here allocates
     let mut text = [0u8; 65536];
     let got = read_full(&mut rt.stdin(), &mut text)?;
     each_line(&mut text[..got], |line| decode_line(&rt, line))?;

@@ -92,6 +92,7 @@ fn run_line(rt: &impl Print, line: &mut [u8]) -> io::Result<()> {
 
 // All cases, one to a line.
 fn main(rt: HostRuntime) -> io::Result<()> {
+    // an array, with how much of it was read: nothing here allocates
     let mut text = [0u8; 65536];
     let got = read_full(&mut rt.stdin(), &mut text)?;
     each_line(&mut text[..got], |line| run_line(&rt, line))

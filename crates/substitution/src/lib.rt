@@ -120,15 +120,15 @@ pub fn add_product(
 pub fn replace_z(
     work: &mut [u8],
     q: usize,
-    heights: &Heights,
+    heights: &[usize],
     powers: Powers,
     products: [u8; MOST_SYMBOLS],
 )
     requires area { Area q (length work.old) }
-    requires same_q { heights.now.q ≡ q }
+    requires q_in_bounds { 2 * q ≤ length heights.now }
     requires y_lt_q { (powers.y < q) × (powers.x ≤ most_degree) }
     ensures { (ρ : Sym q) → Multiplies q products ρ
-        → Turns q work.old work.new (replaced_z q heights.now.each powers.x powers.y ρ (2 * q)) }
+        → Turns q work.old work.new (replaced_z q heights.now powers.x powers.y ρ (2 * q)) }
 {
     for p in 0..2 * q {
         let upper = Row {
@@ -139,7 +139,7 @@ pub fn replace_z(
             polynomial: p,
             row: q,
         };
-        add_product(work, q, lower, upper, heights.of(p), powers, products);
+        add_product(work, q, lower, upper, heights[p], powers, products);
     }
 }
 
@@ -158,5 +158,5 @@ pub fn substitute(products: Products, work: &mut [u8], heights: &Heights, s: usi
     let Some(powers) = curve::monomial_of(products.q, s) else {
         return;
     };
-    replace_z(work, products.q, heights, powers, products.row(vote));
+    replace_z(work, products.q, &heights.each, powers, products.row(vote));
 }

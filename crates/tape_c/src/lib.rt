@@ -1,4 +1,5 @@
-// The calls of crate tape exported to C under their own names, each with its clauses there. include/orbitspinet.h declares them and
+// The calls of crate tape exported to C under their own names, each with its clauses there: a crate is a library or a static library,
+// not both. include/orbitspinet.h declares them and
 // says their promises in words: a slice is passed as a pointer and a length.
 #![tactic(auto)]
 

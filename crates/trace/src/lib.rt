@@ -41,6 +41,7 @@ pub fn print_trace<R: Read, W: Write>(from: &mut R, to: &mut W) -> io::Result<()
     ensures { OnOk result (IfSome (R.remaining from.old) (λ text.
         Appends (W.contents to.old) (W.contents to.new) (trace_text (take 4097 text)))) }
 {
+    // arrays, each with how much of it is used: nothing here allocates
     let mut text = [0u8; 4097];
     let length = read_full(from, &mut text)?;
     let mut out = [0u8; TRACE_SIZE];

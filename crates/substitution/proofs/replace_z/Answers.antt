@@ -9,4 +9,4 @@ loop-p-init c = λ ρ m. turns_same _ (λ S p r i hp hr hi. replaced-none _ c.re
 pub loop-p-preserved : goal.loop-p-preserved
 loop-p-preserved c =
     λ ρ m. turns_same _ (λ S p r i hp hr hi. replaced-more _ c.requires.area.known _ _ _ ρ _ S p r i)
-    (turns-both _ (c.loop-p.invariant ρ m) (rw c.of.ensures.value at (c.add_product.ensures ρ m)))
+    (turns-both _ (c.loop-p.invariant ρ m) (c.add_product.ensures ρ m))

@@ -7,4 +7,4 @@ use Rattle.substitution.proofs.replace_z.Given as goal
 
 abbrev pub invariant-loop-p : goal.invariant-loop-p
 invariant-loop-p l =
-    (ρ : Sym l.q) → Multiplies l.q l.products ρ → Turns l.q l.initial.work l.work (replaced_z l.q l.heights.each l.powers.x l.powers.y ρ l.p)
+    (ρ : Sym l.q) → Multiplies l.q l.products ρ → Turns l.q l.initial.work l.work (replaced_z l.q l.heights l.powers.x l.powers.y ρ l.p)
