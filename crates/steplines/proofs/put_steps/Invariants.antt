@@ -14,4 +14,4 @@ abbrev pub invariant-loop-t : goal.invariant-loop-t
 invariant-loop-t l =
     (length l.work ≡ length l.initial.work) × (l.heights.q ≡ l.q)
     × ((row : List ℕ) → Starts l.q l.initial.work (cells_of l.q (state_after l.q l.u row 0).polys)
-        → Reached l.q l.u row l.t l.initial.page l.work l.heights.each l.page)
+    → Reached l.q l.u row l.t l.initial.page l.work l.heights.each l.page)

@@ -67,7 +67,7 @@ loop-done-preserved c =
       λ row rest rest' e e'.
           let now-then = turn.invariant.4 row rest rest' e e' in
           let stepped =
-              (rw (asked (goal.at.loop-done-preserved c).After-code).1 at c.take_step-vote.ensures.stepped) row rest now-then.0 now-then.2 in
+          (rw (asked (goal.at.loop-done-preserved c).After-code).1 at c.take_step-vote.ensures.stepped) row rest now-then.0 now-then.2 in
           (stepped.0.picture, noting.votes_left ∙ ap (noted _ _ _ _) now-then.1 ∙ noted-next _ _ row _ _ rest' few stepped.0.vote-is, stepped.1),
     )
 
