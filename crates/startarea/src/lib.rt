@@ -67,7 +67,7 @@ fn column_sums(products: Products, row: &[u8], a: usize) -> [u8; MOST_SYMBOLS]
     for b in 0..q {
         let multiples = products.row(ordinates[b]);
         let received = row[a * q + b];
-        // a name of its own, since no proof is made where a call's answer is laid in an array
+        // a name of its own, since the call is handed the array that its answer comes in the place of
         let more = add_part(sums, q, q, multiples, received, received);
         sums = more;
     }
