@@ -10,7 +10,7 @@ ghost use Rattle.block.specs.Untouched.{Untouched};
 pub use answers::{Record, Verdict};
 use laying::lay_row;
 use layout::{HEADER_BYTES, MESSAGE_BYTES, ROW_BYTES, put_header};
-use refusals::Refusal;
+pub use refusals::Refusal;
 pub use verifying::{verify, verify_bytes};
 use writing::is_payload;
 

@@ -1,6 +1,6 @@
 -- The non-gaps as a list and as a count: which stands where, and how many there are below a number.
 -- Assumes nothing.
-use mathlib.Core.Path.{◌≡◌, refl, sym, ap, ◌∙◌}
+use mathlib.Core.Path.{◌≡◌, refl, ap, ◌∙◌}
 use mathlib.Core.Logic.{⊎_elim}
 use mathlib.Core.Bool.{Bool, true, false}
 use mathlib.Core.List.{List, [], ◌∷◌, ◌++◌}
@@ -10,12 +10,11 @@ use native.Mathlib.Numerals.{add-one}
 use native.Mathlib.Omega.{arith}
 use lib.ListN.{length, get_or, length-append, get_or-append}
 use lib.Seq.{get_or_at}
-use Rattle.std.specs.Prelude.{filter}
 use Rattle.algebra.specs.Weights.{nongap}
 use Rattle.lists.specs.Tables.{tab, keep}
 use Rattle.lists.proofs.Numbers.{lt-or-ge}
-use Rattle.lists.proofs.Tables.{length-tab, tab-is}
-use Rattle.lists.proofs.Keep.{keep-nil, keep-yes, keep-no, length-keep, keep-more, keep_same}
+use Rattle.lists.proofs.Tables.{length-tab}
+use Rattle.lists.proofs.Keep.{length-keep, keep-more, keep_same}
 use Rattle.curve.specs.Codes.{nongaps, dimension}
 use Rattle.curve.specs.Ranks.{rank}
 
@@ -157,20 +156,3 @@ module _ (q : ℕ) where
   -- a non-gap from 0 to u has its place in a message
   pub rank_below : (u s : ℕ) → nongap q s ≡ true → s ≤ u → rank q s < dimension q u
   rank_below u s p h = let h' : s < u + 1 = omega arith in rw dimension-rank (rank-strict p h')
-
-  -- what the library's `filter` leaves is what `keep` keeps
-  keep-filter : (l : List ℕ) → keep (nongap q) l ≡ filter (nongap q) l
-  keep-filter [] = keep-nil (nongap q)
-  keep-filter (x ∷ xs) = go (keep-filter xs) (nongap q x) refl
-    where
-      go : keep (nongap q) xs ≡ filter (nongap q) xs → (t : Bool) → nongap q x ≡ t
-          → keep (nongap q) (x ∷ xs) ≡ filter (nongap q) (x ∷ xs)
-      go h true e = rw (keep-yes (nongap q) x xs e, e) (ap (λ (l : List ℕ). x ∷ l) h)
-      go h false e = rw (keep-no (nongap q) x xs e, e) h
-
-  -- so k is how many it leaves of the numbers from 0 to u
-  pub dimension-filter : (u : ℕ) (l : List ℕ) → length l ≡ u + 1 → ((s : ℕ) → s < u + 1 → get_or l s 0 ≡ s)
-      → length (filter (nongap q) l) ≡ dimension q u
-  unfolding dimension nongaps
-  dimension-filter u l long each =
-      ap length (sym (keep-filter l)) ∙ ap (λ m. length (keep (nongap q) m)) (tab-is 0 (u + 1) (λ s. s) l long each)

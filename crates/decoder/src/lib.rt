@@ -11,7 +11,7 @@ ghost use Rattle.decoder.specs.Undamaged.{Undamaged};
 ghost use Rattle.decoder.specs.WithinReach.{WithinReach};
 
 use curve::Code;
-use refusals::Refusal;
+pub use refusals::Refusal;
 use symbols::MOST_POINTS;
 
 // Decodes a full row of symbols: votes, encodes the votes again, and accepts what is within reach.

@@ -10,7 +10,7 @@ ghost use Rattle.encoder.specs.Encoding.{row_numbers, encode_answer, encode_outp
 use curve::Code;
 use evaluation::{column, fill_fibre, spread};
 use products::Products;
-use refusals::Refusal;
+pub use refusals::Refusal;
 
 // The row of a message, written to the first n places. A row of the tape code takes 976 products: at each of the 16 x eleven
 // for each of the 4 powers of y, five for x⁵, and then three at each of the 4 points above it.

@@ -25,7 +25,9 @@ pub fn word_count(rt: &impl Env) -> usize {
 }
 
 // Puts an argument at the start of an area and answers it there: none where there is none or it is longer than a name may be.
-fn argument<'a>(rt: &impl Env, i: usize, area: &'a mut [u8; NAME_SIZE]) -> Option<&'a [u8]> {
+fn argument<'a>(rt: &impl Env, i: usize, area: &'a mut [u8; NAME_SIZE]) -> Option<&'a [u8]>
+    ensures { IfSome result (λ name. IsPrefixLen (length name.now) area.old) }
+{
     let length = rt.arg(i, area).ok()?;
     Some(&area[..length])
 }
@@ -92,11 +94,9 @@ fn letters(rt: &impl RandomSource) -> [u8; 8] {
 }
 
 // A name in the same folder for a file that is not whole yet, put at the start of an area; none where it would be too long.
-fn name_beside<'a>(
-    name: &[u8],
-    letters: [u8; 8],
-    area: &'a mut [u8; NAME_SIZE],
-) -> Option<&'a [u8]> {
+fn name_beside<'a>(name: &[u8], letters: [u8; 8], area: &'a mut [u8; NAME_SIZE]) -> Option<&'a [u8]>
+    ensures { IfSome result (λ beside. IsPrefixLen (length beside.now) area.old) }
+{
     if 4000 < name.len() {
         return None;
     }

@@ -1,7 +1,7 @@
 // The heights of the upper parts: kept while the polynomials change, never searched for.
 #![tactic(auto)]
 
-ghost use Rattle.std.specs.Prelude.{◌≡◌, ◌+◌, ◌*◌, ◌<◌, ◌≤◌, true, get_or};
+ghost use Rattle.std.specs.Prelude.{◌≡◌, ◌++◌, ◌+◌, ◌*◌, ◌<◌, ◌≤◌, true, length, take, drop, get_or};
 ghost use Rattle.symbols.specs.Sizes.{most_shift};
 ghost use Rattle.symbols.specs.Rule.{is_known, Known};
 ghost use Rattle.published.specs.Start.{width};
@@ -47,6 +47,27 @@ impl Heights {
     {
         let each = start_heights(q);
         Heights { q, each }
+    }
+
+    // The heights that stand in the first places of a list.
+    #[tactic(auto, using(workarea::proofs::Sizes::sizes))]
+    pub fn of_list(q: usize, list: &[usize]) -> Self
+        requires { Known q × AreHeights q list.now }
+        ensures q_is { result.q ≡ q }
+        ensures same { take (2 * q) result.each ≡ take (2 * q) list.now }
+    {
+        let mut each = [0usize; MOST_POLYNOMIALS];
+        each[..2 * q].copy_from_slice(&list[..2 * q]);
+        Heights { q, each }
+    }
+
+    // Puts them in the first places of a list; those behind stay.
+    pub fn put_in(&self, list: &mut [usize])
+        requires { 2 * self.now.q ≤ length list.old }
+        ensures { list.new ≡ take (2 * self.now.q) self.now.each ++ drop (2 * self.now.q) list.old }
+    {
+        let count = 2 * self.q;
+        list[..count].copy_from_slice(&self.each[..count]);
     }
 
     // The height of polynomial p.

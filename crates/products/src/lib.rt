@@ -19,7 +19,6 @@ pub struct Products {
     places: &'static [u8],
     pub ghost known: { Known q } by { Known-prop q },
     pub ghost small: { q ≤ most_q },
-    ghost long: { q * q * q * q ≤ length places.now },
     ghost complete: { HasProducts q places.now },
 }
 

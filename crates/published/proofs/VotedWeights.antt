@@ -2,14 +2,19 @@
 -- Assumes nothing.
 use mathlib.Core.Path.{◌≡◌, ap, ◌∙◌}
 use mathlib.Core.Bool.{true, false, not, ◌&&◌, and-false, and-eq-true_iff}
-use Prim.Native.Nat.{ℕ, ◌≤◌}
+use Prim.Native.Nat.{ℕ, ◌≤◌, ◌<◌}
 use lib.Dec.{leb}
-use borrow.Author.Tests.{leb-true, le-leb, not-true}
+use borrow.Author.Tests.{leb-true, le-leb, lt-leb, not-true}
 use Rattle.algebra.specs.Weights.{gap, nongap}
 use Rattle.published.specs.Pairing.{is_voted}
 
 module _ (q u s : ℕ) where
-  -- a gap is not voted
+  -- a weight above u is not voted
+  pub unvoted-above : u < s → is_voted q u s ≡ false
+  unfolding is_voted
+  unvoted-above h = rw (lt-leb s u h)
+
+  -- nor is a gap
   pub unvoted-gap : gap q s ≡ true → is_voted q u s ≡ false
   unfolding is_voted nongap
   unvoted-gap t = ap (λ b. leb s u && not b) t ∙ and-false (leb s u)

@@ -19,9 +19,9 @@ pub struct Asked {
 
 // The number that ends first from a place on, and the place after what ends it.
 #[derive(Clone, Copy)]
-struct Found {
-    value: usize,
-    next: usize,
+pub struct Found {
+    pub value: usize,
+    pub next: usize,
 }
 
 // A space or a newline ends a number.

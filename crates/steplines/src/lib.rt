@@ -28,7 +28,7 @@ pub fn put_steps(page: &mut Page, q: usize, u: usize, work: &mut [u8])
 {
     let count = step_count(q);
     let products = Products::of(q);
-    let mut heights = Heights::at_start(q);
+    let mut heights = Heights::at_start(q).each;
     for t in 0..count {
         let vote = take_step(products, u, t, work, &mut heights);
         put_step_line(page, q, u, count - 1 - t, vote, work);

@@ -4,5 +4,6 @@
 mod service;
 mod step;
 
+pub use refusals::Refusal;
 pub use service::{advance, stop};
 pub use step::{step_count, take_step};

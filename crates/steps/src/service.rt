@@ -42,7 +42,7 @@ fn take_steps(products: Products, code: Code, steps: usize, work: &mut [u8], vot
     let q = code.q;
     let u = code.u;
     let mut left = code.k;
-    let mut heights = Heights::at_start(q);
+    let mut heights = Heights::at_start(q).each;
     for done in 0..steps {
         let vote = step::take_step(products, u, done, work, &mut heights);
         left = note_vote(q, u, done, left, vote, votes);

@@ -4,6 +4,7 @@ ghost use Rattle.symbols.specs.Rule.{Known};
 ghost use Rattle.published.specs.Start.{start_weight, step_count};
 ghost use Rattle.published.specs.Picture.{area_size};
 ghost use Rattle.steps.specs.Stop.{picture_after};
+ghost use Rattle.workarea.specs.Heights.{Heights as AreHeights};
 ghost use Rattle.steps.specs.Step.{Stepped, BelowAfter};
 
 use heights::Heights;
@@ -27,9 +28,9 @@ pub fn step_count(q: usize) -> usize
     start_weight(q) + 1
 }
 
-// Does the step after `done` steps and gives its vote, 0 where there is none.
+// The step after `done` steps, on heights that know their q.
 #[tactic(auto, using(workarea::proofs::Sizes::area_of), unfolding(published::specs::Start::step_count))]
-pub fn take_step(
+fn step_with(
     products: Products,
     u: usize,
     done: usize,
@@ -50,5 +51,27 @@ pub fn take_step(
     let vote = stepvotes::vote_of(pairs, q, voted);
     substitution::substitute(products, work, heights, s, vote);
     updates::change_all(products, work, heights, pairs, vote);
+    vote
+}
+
+// Does the step after `done` steps and gives its vote, 0 where there is none. The heights are the first places of a list.
+#[tactic(auto, using(workarea::proofs::Sizes::sizes))]
+pub fn take_step(
+    products: Products,
+    u: usize,
+    done: usize,
+    work: &mut [u8],
+    heights: &mut [usize],
+) -> u8
+    requires room { (area_size products.q ≤ length work.old) × (done < step_count products.q) }
+    requires heights { AreHeights products.q heights.old }
+    ensures heights_stay { AreHeights products.q heights.new }
+    ensures stepped { let q = products.q in
+        (row : List ℕ) (rest : List ℕ) → work.old ≡ picture_after q u row done ++ rest → BelowAfter q u row done heights.old
+        → Stepped q u row done rest result work.new × BelowAfter q u row (done + 1) heights.new }
+{
+    let mut first = Heights::of_list(products.q, heights);
+    let vote = step_with(products, u, done, work, &mut first);
+    first.put_in(heights);
     vote
 }

@@ -10,6 +10,10 @@ most_q = 4
 abbrev pub most_symbols : ℕ
 most_symbols = most_q * most_q
 
+-- a row of products for each symbol
+abbrev pub table_size : ℕ
+table_size = most_symbols * most_symbols
+
 -- points of the curve
 abbrev pub most_points : ℕ
 most_points = most_q * most_symbols

@@ -8,7 +8,9 @@ mod tables;
 ghost use Rattle.std.specs.Prelude.{◌≡◌, not};
 ghost use Rattle.symbols.specs.Rule.{is_known, Known, sum_of, difference_of, symbols, number, symbol, any_beyond};
 
-pub use sizes::{MOST_AREA, MOST_POINTS, MOST_POLYNOMIALS, MOST_Q, MOST_SYMBOLS, SYMBOL_PLACES};
+pub use sizes::{
+    MOST_AREA, MOST_POINTS, MOST_POLYNOMIALS, MOST_Q, MOST_SYMBOLS, SYMBOL_PLACES, TABLE_SIZE,
+};
 
 // Whether there is a field for this q.
 #[tactic(auto, unfolding(crate::specs::Rule::is_known))]

@@ -7,6 +7,9 @@ pub const MOST_SYMBOLS: usize = MOST_Q * MOST_Q;
 
 pub const SYMBOL_PLACES: u8 = MOST_SYMBOLS as u8;
 
+// A row of products for each symbol.
+pub const TABLE_SIZE: usize = MOST_SYMBOLS * MOST_SYMBOLS;
+
 // Points of the curve: the symbols of a row, of which no message has more.
 pub const MOST_POINTS: usize = MOST_Q * MOST_SYMBOLS;
 

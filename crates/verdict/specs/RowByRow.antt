@@ -15,17 +15,27 @@ verdict_before block payload records work = first_of (checks_for block payload r
 
 -- the verdict after row r too: while it is Copied the row's count is added, or the row ends it with Differs or Unreadable; after
 -- that it stays
-unfoldable pub next_verdict : Verdict → ℕ → Record → Verdict
-next_verdict (Copied total) r x =
+unfoldable pub verdict_with : Verdict → ℕ → Record → Verdict
+verdict_with (Copied total) r x =
     elim (eqb x.state 0) [
       | true ↦ Copied (total + x.count)
       | false ↦ elim (eqb x.state 1) [ true ↦ Differs r | false ↦ Unreadable r ]
     ]
-next_verdict (Differs i) r x = Differs i
-next_verdict (Unreadable i) r x = Unreadable i
+verdict_with (Differs i) r x = Differs i
+verdict_with (Unreadable i) r x = Unreadable i
+
+-- and a refusal stays, whatever is read
+unfoldable pub next_verdict : Result Verdict Refusal → ℕ → Record → Result Verdict Refusal
+next_verdict (Ok verdict) r x = Ok (verdict_with verdict r x)
+next_verdict (Err why) r x = Err why
 
 -- the sum of counts so far
-unfoldable pub total_of : Verdict → ℕ
-total_of (Copied total) = total
-total_of (Differs r) = 0
-total_of (Unreadable r) = 0
+unfoldable pub total_in : Verdict → ℕ
+total_in (Copied total) = total
+total_in (Differs r) = 0
+total_in (Unreadable r) = 0
+
+-- none after a refusal
+unfoldable pub total_of : Result Verdict Refusal → ℕ
+total_of (Ok verdict) = total_in verdict
+total_of (Err why) = 0

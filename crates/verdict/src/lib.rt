@@ -37,16 +37,20 @@ pub fn verdict_before(
     Ok((Verdict::Copied(0), rows))
 }
 
-// The verdict after row r too, whose outcome is handed in.
-#[tactic(auto, unfolding(crate::specs::RowByRow::next_verdict, crate::specs::RowByRow::total_of))]
-pub fn next_verdict(verdict: Verdict, r: usize, outcome: Record) -> Verdict
+// The verdict after row r too, whose outcome is handed in; a refusal stays.
+#[tactic(auto, unfolding(crate::specs::RowByRow::next_verdict, crate::specs::RowByRow::verdict_with, crate::specs::RowByRow::total_of, crate::specs::RowByRow::total_in))]
+pub fn next_verdict(
+    verdict: Result<Verdict, Refusal>,
+    r: usize,
+    outcome: Record,
+) -> Result<Verdict, Refusal>
     requires { total_of verdict + outcome.count < 2 ^ 64 }
     ensures { result ≡ next_verdict verdict r outcome }
 {
     match (verdict, outcome.state) {
-        (Verdict::Copied(total), 0) => Verdict::Copied(total + usize::from(outcome.count)),
-        (Verdict::Copied(_), 1) => Verdict::Differs(r),
-        (Verdict::Copied(_), _) => Verdict::Unreadable(r),
+        (Ok(Verdict::Copied(total)), 0) => Ok(Verdict::Copied(total + usize::from(outcome.count))),
+        (Ok(Verdict::Copied(_)), 1) => Ok(Verdict::Differs(r)),
+        (Ok(Verdict::Copied(_)), _) => Ok(Verdict::Unreadable(r)),
         (settled, _) => settled,
     }
 }

@@ -22,7 +22,7 @@ use Rattle.layout.specs.Layout.{tape_reach, row_bytes, message_bytes, header_byt
 use Rattle.taperow.specs.Reading.{row_record}
 use Rattle.verifying.specs.Verification.{verdict_from}
 use Rattle.verdict.specs.Checks.{checks_for}
-use Rattle.verdict.specs.RowByRow.{verdict_before, next_verdict, total_of}
+use Rattle.verdict.specs.RowByRow.{verdict_before, verdict_with, total_in}
 use Rattle.answers.specs.declared.Record.{Record}
 use Rattle.answers.specs.declared.Verdict.{Verdict}
 use Rattle.answers.specs.declared.Verdict.TheVariants.{Copied, Differs, Unreadable}
@@ -49,27 +49,27 @@ worked-next (suc k) work = rw (add-one (suc k)) (cleared-again (area_size tape_q
 -- the verdict after k rows with the records f 0, f 1, ..
 unfoldable pub after : (ℕ → Record) → ℕ → Verdict
 after f zero = Copied 0
-after f (suc k) = next_verdict (after f k) k (f k)
+after f (suc k) = verdict_with (after f k) k (f k)
 
 -- one row more
-pub after_next : (f : ℕ → Record) (k : ℕ) → after f (k + 1) ≡ next_verdict (after f k) k (f k)
+pub after_next : (f : ℕ → Record) (k : ℕ) → after f (k + 1) ≡ verdict_with (after f k) k (f k)
 unfolding after
 after_next f k = rw (add-one k)
 
 -- the verdict after the records of a list, of which the first is row r's
 unfoldable over : Verdict → ℕ → List Record → Verdict
 over v r [] = v
-over v r (x ∷ xs) = over (next_verdict v r x) (suc r) xs
+over v r (x ∷ xs) = over (verdict_with v r x) (suc r) xs
 
 -- a verdict that names a row stays
 over-differs : (i r : ℕ) (xs : List Record) → over (Differs i) r xs ≡ Differs i
-unfolding over next_verdict
+unfolding over verdict_with
 over-differs i r [] = refl
 over-differs i r (x ∷ xs) = over-differs i (suc r) xs
 
 -- of either kind
 over-unreadable : (i r : ℕ) (xs : List Record) → over (Unreadable i) r xs ≡ Unreadable i
-unfolding over next_verdict
+unfolding over verdict_with
 over-unreadable i r [] = refl
 over-unreadable i r (x ∷ xs) = over-unreadable i (suc r) xs
 
@@ -83,7 +83,7 @@ first-named r total xs false false later = sym (over-unreadable r (suc r) xs)
 
 -- the answer's verdict is made row by row
 from-copied : (r total : ℕ) (xs : List Record) → verdict_from r total xs ≡ over (Copied total) r xs
-unfolding verdict_from over next_verdict
+unfolding verdict_from over verdict_with
 from-copied r total [] = refl
 from-copied r total (x ∷ xs) =
     first-named r (total + x.count) xs (eqb x.state 0) (eqb x.state 1) (from-copied (suc r) (total + x.count) xs)
@@ -102,12 +102,12 @@ unfolding after tab
 after-all f n = sym (from-copied 0 0 (from 0 n f) ∙ over-after f 0 n ∙ ap (after f) (zero-add n))
 
 -- the sum of counts grows by at most 9 a row
-next-total : (v : Verdict) (r : ℕ) (x : Record) → x.count ≤ tape_reach → total_of (next_verdict v r x) ≤ total_of v + tape_reach
-unfolding next_verdict total_of
+next-total : (v : Verdict) (r : ℕ) (x : Record) → x.count ≤ tape_reach → total_in (verdict_with v r x) ≤ total_in v + tape_reach
+unfolding verdict_with total_in
 next-total (Copied total) r x small = by_tests (eqb x.state 0) (eqb x.state 1)
   where
     -- by the row's two tests
-    by_tests : (zero one : Bool) → total_of (by_state zero one r (Copied (total + x.count))) ≤ total + tape_reach
+    by_tests : (zero one : Bool) → total_in (by_state zero one r (Copied (total + x.count))) ≤ total + tape_reach
     by_tests true one = omega arith
     by_tests false true = zero-le
     by_tests false false = zero-le
@@ -115,8 +115,8 @@ next-total (Differs i) r x small = zero-le
 next-total (Unreadable i) r x small = zero-le
 
 -- after k rows the sum is at most 9k
-total-small : (f : ℕ → Record) → ((k : ℕ) → (f k).count ≤ tape_reach) → (k : ℕ) → total_of (after f k) ≤ tape_reach * k
-unfolding after total_of
+total-small : (f : ℕ → Record) → ((k : ℕ) → (f k).count ≤ tape_reach) → (k : ℕ) → total_in (after f k) ≤ tape_reach * k
+unfolding after total_in
 total-small f small zero = zero-le
 total-small f small (suc k) = omega (arith, total-small f small k, next-total (after f k) k (f k) (small k))
 
@@ -126,7 +126,7 @@ pub record Ready (block payload : List ℕ) (records work r : ℕ) : Type 0 wher
   pub message : message_bytes + message_bytes * r ≤ length payload
   pub place : r < records
   pub room : area_size tape_q ≤ work
-  pub sum : total_of (after (row_record block payload) r) + (row_record block payload r).count < 2 ^ 64
+  pub sum : total_in (after (row_record block payload) r) + (row_record block payload r).count < 2 ^ 64
 
 -- what is known of a call that reads rows
 pub record Begun (block payload : List ℕ) (records work : ℕ) (first : Verdict) (rows : ℕ) : Type 0 where

@@ -12,7 +12,7 @@ mod stored; // stored.rt: where the records of the rows go
 
 use answers::Record;
 pub use answers::Verdict;
-use refusals::Refusal;
+pub use refusals::Refusal;
 use rows::verify_rows;
 
 // Verifies a block against its payload.

@@ -32,11 +32,12 @@ pub fn verify_rows<S: Stored>(
     ensures copied { (total : ℕ) → result ≡ Ok (Copied total) → CopyOf block.now payload.now }
     ensures exactly { CopiedExactly block.now payload.now (S.room records.old) (length work.old) result }
 {
-    let (mut verdict, rows) = verdict_before(block, payload, S::room(records), work.len())?;
+    let (first, rows) = verdict_before(block, payload, S::room(records), work.len())?;
+    let mut verdict = Ok(first);
     for r in 0..rows {
         let outcome = row_record(block, payload, r, work);
         S::put(records, r, outcome);
         verdict = next_verdict(verdict, r, outcome);
     }
-    Ok(verdict)
+    verdict
 }

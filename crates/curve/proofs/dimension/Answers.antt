@@ -1,33 +1,36 @@
--- `curve::dimension` meets its contract: the range gives the numbers from 0 to u, and the filter leaves the non-gaps of them.
--- Assumes nothing.
-use mathlib.Core.Path.{◌≡◌, sym, ap, ◌∙◌}
-use Prim.Native.Nat.{ℕ, ◌+◌, ◌<◌}
+-- `curve::dimension` meets its contract: the goals that the check leaves open. Assumes nothing.
+use mathlib.Core.Bool.{not}
+use mathlib.Core.Path.{ap, ◌≡◌, sym, ◌∙◌}
+use Prim.Native.Nat.{◌+◌}
 use native.Mathlib.Omega.{arith}
-use lib.ListN.{length, get_or}
-use Rattle.std.proofs.Common.{rules}
-use Rattle.std.proofs.iter.runs.Sources.{range_listed}
 use Rattle.algebra.specs.Weights.{nongap}
 use Rattle.curve.proofs.Sizes.{count_small}
-use Rattle.curve.proofs.Ranks.{dimension-filter}
+use Rattle.curve.proofs.Ranks.{rank-zero, rank-nongap, rank-gap, rank-le, dimension-rank}
 use Rattle.curve.proofs.dimension.Goals as goal
+use Rattle.curve.proofs.dimension.Goals.{then-not-is_gap, else-not-is_gap}
 
-pub overflow_add-u : goal.overflow_add-u
-overflow_add-u c = omega (arith, c.requires.1, count_small _ c.requires.0)
+pub overflow_add-s-end : goal.overflow_add-s-end
+overflow_add-s-end c = omega (arith, c.requires.1, count_small _ c.requires.0)
+
+pub loop-s-init : goal.loop-s-init
+loop-s-init c = sym (rank-zero _)
+
+pub overflow_add-count : goal.overflow_add-count
+overflow_add-count c =
+    let at = c.loop-s in
+    omega (arith, rank-le c.args.q at.s, count_small _ c.requires.0, at.invariant)
+
+pub loop-s-preserved : goal.loop-s-preserved
+unfolding nongap
+loop-s-preserved c =
+    let q = c.args.q in
+    let at = c.loop-s in
+    elim c.if-not-is_gap.branch [
+      | then-not-is_gap w ↦ w.count-is ∙ (rw at.invariant (sym (rank-nongap q at.s (rw c.is_gap.ensures at (ap not w.if-not-is_gap.true)))))
+      | else-not-is_gap w ↦ w.count-is ∙ (rw at.invariant (sym (rank-gap q at.s (rw c.is_gap.ensures at (ap not w.if-not-is_gap.false)))))
+    ]
 
 pub returns : goal.returns
-unfolding nongap
 returns c =
-    let counted = c.count.ensures.runs in
-    let given = c.filter.ensures.runs counted.0 counted.0.seen counted.1 in
-    let kept = given.2.4 (nongap c.args.q) (λ x r f' h. search rules) in
-    let numbers = range_listed given.0 given.0.seen in
-    let up = numbers.4 in
-    let first : numbers.0 ≡ 0 = numbers.2 ∙ ap (λ r. r.start) given.1 in
-    let last : numbers.1 ≡ c.args.u + 1 = numbers.3 ∙ ap (λ r. r.end) given.1 in
-    let many : length given.0.items ≡ c.args.u + 1 = omega (arith, given.0.long, up.1 (given.2.0 ∙ counted.2), first, last) in
-    let each : (s : ℕ) → s < c.args.u + 1 → get_or given.0.items s 0 ≡ s = λ s l.
-    let within : s < given.0.len = omega (arith, given.0.long, many) in
-    let both = sym (given.0.reads s 0 within) ∙ up.3 s within in
-    let value : get_or given.0.items s 0 ≡ numbers.0 + s = cc in
-    omega (arith, value, first) in
-    counted.3 ∙ counted.0.long ∙ ap length kept ∙ dimension-filter c.args.q c.args.u given.0.items many each
+    let e : c.loop-s.s ≡ c.args.u + 1 = omega (arith, c.loop-s-test.false, c.loop-s.auto) in
+    c.loop-s.invariant ∙ (rw e (sym (dimension-rank c.args.q c.args.u)))

@@ -1,5 +1,5 @@
 -- `steplines::put_steps` meets its contract: the goals that the check leaves open. Assumes nothing.
-use mathlib.Core.Path.{refl, sym, ◌∙◌}
+use mathlib.Core.Path.{refl, ◌∙◌}
 use mathlib.Core.List.{List}
 use Prim.Native.Nat.{ℕ, ◌+◌, ◌*◌, ◌≤◌, ◌<◌}
 use native.Mathlib.Nat.{mul-le-mul_right}
@@ -8,6 +8,7 @@ use lib.ListN.{length}
 use Rattle.lines.specs.Page.{Room}
 use Rattle.lines.proofs.Pages.{put_nothing}
 use Rattle.published.specs.Start.{step_count}
+use Rattle.workarea.proofs.HeightLaws.{start-many}
 use Rattle.workarea.proofs.Sizes.{area_of}
 use Rattle.steps.proofs.StartHeights.{below-start}
 use Rattle.steplines.specs.StepLines.{step_lines}
@@ -45,13 +46,13 @@ pub loop-t-init : goal.loop-t-init
 unfolding step_lines
 loop-t-init c =
     let a = c.args in
-    let start = c.at_start-heights.ensures in (
+    let start = c.at_start.ensures in (
       refl,
-      start.0,
+      start-many a.q _ c.requires.known.0 start.1,
       λ row shows. record {
         shows = shows;
         lines = put_nothing a.page.now;
-        below = below-start a.q c.requires.known.0 c.at_start-heights.result.each start.1 a.u row;
+        below = below-start a.q c.requires.known.0 c.at_start.result.each start.1 a.u row;
       },
     )
 
@@ -60,7 +61,7 @@ take_step-vote-requires c =
     let due = step-due (goal.at.take_step-vote-requires c).In-loop-t in
     record {
       room = rw c.of-products.ensures (omega (arith, c.loop-t.invariant.0, c.requires.known.1), due);
-      same_q = c.loop-t.invariant.1 ∙ sym c.of-products.ensures;
+      heights = rw c.of-products.ensures c.loop-t.invariant.1;
     }
 
 pub put_step_line-requires-clause-area : goal.put_step_line-requires-clause-area
@@ -86,7 +87,7 @@ pub loop-t-preserved : goal.loop-t-preserved
 loop-t-preserved c =
     let a = c.args in (
       c.take_step-vote.auto.work ∙ c.loop-t.invariant.0,
-      c.take_step-vote.ensures.q_stays ∙ c.loop-t.invariant.1,
+      (rw c.of-products.ensures at c.take_step-vote.ensures.heights_stay),
       λ row shows. reached-more a.q a.u row c.loop-t.t _ (step-due (goal.at.loop-t-preserved c).In-loop-t)
           (weight_is a.q c.loop-t.t c.step_count-count.ensures) (lines_fit (goal.at.loop-t-preserved c).At-loop-t row)
           (c.loop-t.invariant.2 row shows)

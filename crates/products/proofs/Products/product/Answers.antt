@@ -19,6 +19,4 @@ returns-else-self-eq4 c =
     rw e (product-of-list 2 c.args.a c.args.b _ (rw e at c.args.self.complete))
 
 pub bounds-places-a-else-self-eq4 : goal.bounds-places-a-else-self-eq4
-bounds-places-a-else-self-eq4 c =
-    let long = rw (known-other _ c.args.self.known c.if-self-eq4.false) at c.args.self.long in
-    omega (arith, long)
+bounds-places-a-else-self-eq4 c = omega (arith, c.args.self.complete.long)

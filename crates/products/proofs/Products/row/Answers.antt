@@ -19,6 +19,4 @@ returns-else-self-eq4 c =
     c.part_of-else-self-eq4.ensures ∙ (rw e (row-of-list 2 c.args.a _ (rw e at c.args.self.complete)))
 
 pub part_of-requires-else-self-eq4 : goal.part_of-requires-else-self-eq4
-part_of-requires-else-self-eq4 c =
-    let long = rw (known-other _ c.args.self.known c.if-self-eq4.false) at c.args.self.long in
-    (omega arith, omega (arith, long))
+part_of-requires-else-self-eq4 c = (omega arith, omega (arith, c.args.self.complete.long))

@@ -12,6 +12,7 @@ use Rattle.curve.proofs.CodeLaws.{code_below}
 use Rattle.published.specs.Start.{step_count}
 use Rattle.steps.specs.Stop.{picture_after, votes_after}
 use Rattle.steps.specs.Votes.{votes_below, noted}
+use Rattle.workarea.proofs.HeightLaws.{start-many}
 use Rattle.steps.proofs.StartHeights.{below-start}
 use Rattle.steps.proofs.VotePlaces.{below_all, below-le, code-stepped, noted-next}
 use Rattle.steps.proofs.service.take_steps.Goals as goal
@@ -34,8 +35,8 @@ loop-done-init c =
       refl,
       refl,
       c.code.invariant.k-is ∙ sym (below_all _ _ _ (code-stepped _ _ known (code_below _ _ c.code.invariant.accepted))) ∙ ap (votes_below c.code.inside.q c.code.inside.u) (sym (sub-zero _)),
-      c.at_start-heights.ensures.0,
-      λ row rest rest' e e'. (e, e', below-start _ known _ c.at_start-heights.ensures.1 _ row),
+      start-many _ _ known c.at_start.ensures.1,
+      λ row rest rest' e e'. (e, e', below-start _ known _ c.at_start.ensures.1 _ row),
     )
 
 pub take_step-vote-requires : goal.take_step-vote-requires
@@ -43,7 +44,7 @@ take_step-vote-requires c =
     let given = asked (goal.at.take_step-vote-requires c).After-code in
     record {
       room = rw given.1 (omega (arith, c.loop-done.invariant.0, given.2), omega (arith, given.0, c.loop-done-test.true));
-      same_q = c.loop-done.invariant.3 ∙ sym given.1;
+      heights = rw given.1 c.loop-done.invariant.3;
     }
 
 pub note_vote-left-requires : goal.note_vote-left-requires
@@ -63,7 +64,7 @@ loop-done-preserved c =
       search rules,
       search rules,
       noting.value,
-      c.take_step-vote.ensures.q_stays ∙ turn.invariant.3,
+      (rw (asked (goal.at.loop-done-preserved c).After-code).1 at c.take_step-vote.ensures.heights_stay),
       λ row rest rest' e e'.
           let now-then = turn.invariant.4 row rest rest' e e' in
           let stepped =

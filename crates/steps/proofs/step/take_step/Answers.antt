@@ -1,25 +1,26 @@
--- The parts of the step, one after the other, at the state after the steps done.
--- Assumes nothing.
+-- `steps::step::take_step` meets its contract: what bounds the first places of the list bounds the upper parts. Assumes nothing.
+use mathlib.Core.Path.{◌≡◌, ◌∙◌}
+use Prim.Native.Nat.{◌*◌}
+use lib.ListN.{take}
 use native.Mathlib.Omega.{arith}
-use mathlib.Core.Path.{ap}
-use Prim.Native.Nat.{ℕ, ◌-◌}
-use Rattle.published.specs.Start.{step_count}
-use Rattle.workarea.proofs.Sizes.{sizes}
-use Rattle.steps.proofs.StepLaws.{vote-zero, assembled}
+use Rattle.heights.proofs.Lists.{heights-same, within-same, same-first}
 use Rattle.steps.proofs.step.take_step.Goals as goal
+use Rattle.steps.proofs.step.take_step.Goals.{After-put_in}
 
-pub overflow_sub-s : goal.overflow_sub-s
-unfolding step_count
-overflow_sub-s c = omega (arith, c.start_weight.ensures, c.requires.room.1)
+-- the heights after the step have the same q, and the list begins with them
+q-same : (c : After-put_in) → c.step_with-vote.new.heights.q ≡ c.args.products.q
+q-same c = c.step_with-vote.ensures.q_stays ∙ c.of_list-first.ensures.q_is
 
-pub pairs_of-pairs-requires-clause-s_le_most_weight : goal.pairs_of-pairs-requires-clause-s_le_most_weight
-pairs_of-pairs-requires-clause-s_le_most_weight c = omega (arith, c.start_weight.ensures, (sizes _ c.args.products.known).start)
+begins : (c : After-put_in) → take (2 * c.args.products.q) c.put_in.new.list ≡ take (2 * c.args.products.q) c.step_with-vote.new.heights.each
+begins c = rw (c.put_in.ensures, q-same c) (same-first _ _ _ (rw (q-same c) at c.step_with-vote.new.heights.low).enough)
 
-pub substitute-requires-clause-s_le_most_degree : goal.substitute-requires-clause-s_le_most_degree
-substitute-requires-clause-s_le_most_degree c =
-    (omega (arith, c.start_weight.ensures, (sizes _ c.args.products.known).start), λ ne. vote-zero _ _ _ _ _ c.is_voted-voted.ensures c.vote_of-vote.ensures.unvoted ne)
+pub returns-clause-heights_stay : goal.returns-clause-heights_stay
+returns-clause-heights_stay c =
+    let done = (goal.at.returns-clause-heights_stay c).After-put_in in
+    heights-same _ _ _ (begins done) (omega (arith, c.requires.heights.enough, c.put_in.auto.list)) (rw (q-same done) at c.step_with-vote.new.heights.low)
 
 pub returns-clause-stepped : goal.returns-clause-stepped
 returns-clause-stepped c = λ row rest e below.
-    assembled _ _ row _ c.args.products.known rest _ _ c.pairs_of-pairs.result _ _ _ _ _ _ (ap (λ (n : ℕ). n - c.args.done) c.start_weight.ensures) c.is_voted-voted.ensures e below
-    c.pairs_of-pairs.ensures.numbers_of c.vote_of-vote.ensures.vote c.substitute.ensures c.change_all.ensures.becomes_below
+    let done = (goal.at.returns-clause-stepped c).After-put_in in
+    let after = c.step_with-vote.ensures.stepped row rest e (within-same _ _ _ _ c.of_list-first.ensures.same below) in
+    (after.0, within-same _ _ _ _ (begins done) after.1)
