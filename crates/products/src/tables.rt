@@ -2,7 +2,7 @@
 
 use symbols::TABLE_SIZE;
 
-// q = 2: place 4a + b holds the product of a and b, and nothing stands behind them.
+// q = 2: place 4a + b holds the product of a and b, and zeros stand behind them.
 pub const PRODUCTS_2: [u8; 256] = *b"\
     \x00\x00\x00\x00\x00\x01\x02\x03\x00\x02\x03\x01\x00\x03\x01\x02\
     \x00\x00\x00\x00\x00\x00\x00\x00\x00\x00\x00\x00\x00\x00\x00\x00\
